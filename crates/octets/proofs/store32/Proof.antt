@@ -1,0 +1,59 @@
+-- `octets::store32` meets its contract: the stores from the front are the four bytes of the number.
+use native.Mathlib.Omega.{arith}
+use lib.ListN.{length-set}
+use Rattle.octets.specs.Number.{bytesOf}
+use Rattle.octets.specs.Front.{none-stored, all-stored, stores}
+use borrow.Author.Needs.{needs}
+use Rattle.octets.proofs.store32.Statement.{statement}
+use Rattle.octets.proofs.store32.Tie as tie
+
+returns : tie.Need-returns
+returns c = none-stored (bytesOf 4 (c .before .args .n)) (c .before .args .out .now) (c .if1 .taken)
+
+cast-out : tie.Need-cast-out
+cast-out c = search needs
+
+slice-write-out : tie.Need-slice-write-out
+slice-write-out c = search needs
+
+cast-out-2 : tie.Need-cast-out-2
+cast-out-2 c = search needs
+
+slice-write-out-2 : tie.Need-slice-write-out-2
+slice-write-out-2 c = simp length-set (omega arith)
+
+cast-out-3 : tie.Need-cast-out-3
+cast-out-3 c = search needs
+
+slice-write-out-3 : tie.Need-slice-write-out-3
+slice-write-out-3 c = simp length-set (omega arith)
+
+cast-out-4 : tie.Need-cast-out-4
+cast-out-4 c = search needs
+
+slice-write-out-4 : tie.Need-slice-write-out-4
+slice-write-out-4 c = search needs
+
+same-length : tie.Need-same-length
+same-length c = search needs
+
+returns-2 : tie.Need-returns-2
+returns-2 c =
+    let p = bytesOf 4 (c .before .args .n) in
+    all-stored (c .if1 .left) (stores p (c .before .args .out .now) (c .if1 .left))
+
+pub store32-spec : {M : Type 1} → statement M
+store32-spec =
+    tie.close
+    (tie.spec
+    returns
+    cast-out
+    slice-write-out
+    cast-out-2
+    slice-write-out-2
+    cast-out-3
+    slice-write-out-3
+    cast-out-4
+    slice-write-out-4
+    same-length
+    returns-2)

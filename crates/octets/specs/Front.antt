@@ -1,0 +1,126 @@
+-- Storing at the front of a lent slice, and what every writer answers.
+use Prim.Native.Nat.{ℕ, _+_, _-_, _≤_, _<_}
+use mathlib.Core.Path.{_≡_, refl, sym, ap, _∙_}
+use mathlib.Core.List.{List, _++_, append-assoc, append-nil}
+use lib.ListN.{length, take, drop, length-append, length-drop}
+use lib.Seq.{sets, sets-eq, take-append-seam, drop-append-seam, take-length, drop-length, drop-drop}
+use lib.Dec.{leb}
+use borrow.Rule.Slice.PartMut.{midOf, putMid}
+use native.Mathlib.Omega.{arith}
+use native.Mathlib.Nat.{zero-add}
+use borrow.Author.Tests.{le-leb, lt-leb}
+use Rattle.octets.specs.Choice.{pick}
+use Rattle.octets.specs.declared.Written.{Written}
+use Rattle.octets.specs.declared.Written.the-variants.{Stored, Refused}
+
+-- l with its front replaced by p; the rest stays
+abbrev pub over : (p l : List ℕ) → List ℕ
+over p l = p ++ drop (length p) l
+
+-- Storing p at the front of l, all of it or nothing: how many bytes are stored, and what l holds then.
+unfoldable pub countOf : (p l : List ℕ) → ℕ
+countOf p l = pick (leb (length p) (length l)) (length p) 0
+
+unfoldable pub frontOf : (p l : List ℕ) → List ℕ
+frontOf p l = pick (leb (length p) (length l)) (over p l) l
+
+-- what a storing function did that was given room: p stands in front, and its length was answered
+pub record AtFront (p before after : List ℕ) (count : ℕ) : Type 0 where
+  pub counted : count ≡ length p
+  pub bytes : after ≡ over p before
+
+-- May the fields that a writer was given be written? If not, the number says why.
+pub data Verdict : Type 0 where
+  fine : Verdict
+  fault : (number : ℕ) → Verdict
+
+-- A writer of the bytes t: its answer at a lent slice of so many bytes, and what that slice holds then. The number of a
+-- bad field comes first, 11 for too small a slice last, and a refusal stores nothing.
+unfoldable pub answerBy : Verdict → (t : List ℕ) (room : ℕ) → Written
+answerBy fine t room = pick (leb (length t) room) (Stored (length t)) (Refused 11)
+answerBy (fault k) t room = Refused k
+
+unfoldable pub heldBy : Verdict → (t out : List ℕ) → List ℕ
+heldBy fine t out = pick (leb (length t) (length out)) (over t out) out
+heldBy (fault k) t out = out
+
+-- ---- laws
+
+-- what does not fit, and what fits
+pub none-stored : (p l : List ℕ) → length l < length p → (0 ≡ countOf p l) × (l ≡ frontOf p l)
+unfolding countOf frontOf
+none-stored p l h = (simp (lt-leb _ _ h), simp (lt-leb _ _ h))
+
+pub all-stored : {p l after : List ℕ} {count : ℕ} → length p ≤ length l → AtFront p l after count → (count ≡ countOf p l) × (after ≡ frontOf p l)
+unfolding countOf frontOf
+all-stored h f = (simp (le-leb _ _ h) (f .counted), simp (le-leb _ _ h) (f .bytes))
+
+-- stores one after the other from the front
+pub stores : (p l : List ℕ) → length p ≤ length l → AtFront p l (sets l 0 p) (length p)
+stores p l h =
+    record { counted = refl; bytes = sets-eq p l 0 (omega arith) ∙ ap (λ (n : ℕ). p ++ drop n l) (zero-add (length p)) }
+
+-- what fits is stored
+pub at-front : {p l after : List ℕ} {count : ℕ} → count ≡ countOf p l → after ≡ frontOf p l → length p ≤ length l → AtFront p l after count
+unfolding countOf frontOf
+at-front {p} {l} c b h =
+    record { counted = simp (le-leb _ _ h) at c; bytes = simp (le-leb _ _ h) at b }
+
+-- the outcomes of a writer
+pub too-small : (t l : List ℕ) → length l < length t → (Refused 11 ≡ answerBy fine t (length l)) × (l ≡ heldBy fine t l)
+unfolding answerBy heldBy
+too-small t l h = (simp (lt-leb _ _ h), simp (lt-leb _ _ h))
+
+pub stored : {t l after : List ℕ} {count : ℕ} → length t ≤ length l → AtFront t l after count
+    → (Stored count ≡ answerBy fine t (length l)) × (after ≡ heldBy fine t l)
+unfolding answerBy heldBy
+stored h f = (simp (le-leb _ _ h) (ap Stored (f .counted)), simp (le-leb _ _ h) (f .bytes))
+
+-- a bad field stores nothing
+pub refused : (k : ℕ) (t l : List ℕ) → (Refused k ≡ answerBy (fault k) t (length l)) × (l ≡ heldBy (fault k) t l)
+unfolding answerBy heldBy
+refused k t l = (refl, refl)
+
+-- ---- two stores, q behind p
+
+-- p fits where both fit
+pub first-fits : (p q : List ℕ) {room : ℕ} → length (p ++ q) ≤ room → length p ≤ room
+first-fits p q h = omega (arith, length-append p q)
+
+-- what is lent of l from n on
+lent : (n : ℕ) (l : List ℕ) → midOf n (length l - n) l ≡ drop n l
+lent n l = rw (← length-drop n l) (take-length (drop n l))
+
+-- and what l holds when that comes back as m
+back : (n : ℕ) (l m : List ℕ) → putMid n (length l - n) l m ≡ take n l ++ m
+back n l m = rw (← length-drop n l, drop-length (drop n l), append-nil)
+
+module _ {p l a : List ℕ} {n : ℕ} (f : AtFront p l a n) where
+  -- p stands before n
+  pub front : take n a ≡ p
+  front = rw (f .counted, f .bytes) (take-append-seam p (drop (length p) l))
+
+  -- from n on the slice is unchanged
+  rest : drop n a ≡ drop (length p) l
+  rest = rw (f .counted, f .bytes) (drop-append-seam p (drop (length p) l))
+
+  -- q fits behind p where both fit
+  pub within : (q : List ℕ) → length (p ++ q) ≤ length l → n + length q ≤ length a
+  within q h = rw (f .counted, f .bytes) (simp (length-append, length-drop) (omega (arith, length-append p q)))
+
+  -- so q fits in what is lent from n on
+  pub rest-fits : (q : List ℕ) → length (p ++ q) ≤ length l → length q ≤ length (midOf n (length a - n) a)
+  rest-fits q h = rw (lent n a) (omega (arith, length-drop n a, within q h))
+
+  -- q stored right behind p
+  pub behind : (q : List ℕ) {after : List ℕ} → after ≡ p ++ q ++ drop (n + length q) a → AtFront (p ++ q) l after (n + length q)
+  behind q e =
+      record {
+        counted = rw (f .counted) (sym (length-append p q));
+        bytes = e ∙ rw (← drop-drop (length q) n a, rest, length-append, drop-drop);
+      }
+
+  -- q stored by a function that was lent what is left from n on
+  pub both : {q m : List ℕ} {count : ℕ} → AtFront q (midOf n (length a - n) a) m count
+      → AtFront (p ++ q) l (putMid n (length a - n) a m) (n + count)
+  both {q} {m} g = rw (g .counted) (behind q (back n a m ∙ rw (g .bytes, front, lent n a, drop-drop, append-assoc)))

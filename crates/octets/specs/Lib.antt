@@ -1,0 +1,6 @@
+pub mod Choice
+pub mod Bytes
+pub mod Elements
+pub mod Number
+pub mod Front
+pub mod Part
