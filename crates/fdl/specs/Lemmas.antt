@@ -1,0 +1,7 @@
+pub mod Extends
+pub mod Reads
+pub mod Fields
+pub mod Back
+pub mod Again
+pub mod Changed
+pub mod Long

@@ -1,0 +1,18 @@
+-- What reading and writing a telegram share.
+use Prim.Native.Nat.{ℕ, _+_, _%_}
+use mathlib.Core.List.{List, [], _∷_}
+use Rattle.fdl.specs.declared.telegram.Sap.{Sap}
+use Rattle.fdl.specs.declared.telegram.Sap.the-variants.{Absent, Present}
+
+abbrev pub sumOf : List ℕ → ℕ
+sumOf [] = 0
+sumOf (x ∷ xs) = x + sumOf xs
+
+-- FCS: the sum of DA through the last PDU byte, modulo 256
+unfoldable pub checksumOf : List ℕ → ℕ
+checksumOf core = sumOf core % 256
+
+-- how many bytes of the PDU an access point takes
+abbrev pub sapLength : Sap → ℕ
+sapLength Absent = 0
+sapLength (Present x) = 1

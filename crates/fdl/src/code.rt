@@ -1,0 +1,37 @@
+// Function codes: every byte has one class.
+ghost use mathlib.Core.Path.{_≡_};
+ghost use Rattle.fdl.specs.Code.{classOf, isReserved};
+use crate::table::class_number;
+
+// What kind of telegram a function code makes. An opening call starts the count of a pair of
+// stations (FCB 1), a counted call goes on with it, an uncounted call is outside of it; an answer is
+// bare or carries data.
+pub enum Class {
+    Opening,
+    Counted,
+    Uncounted,
+    Bare,
+    Data,
+    Reserved,
+}
+
+// The class of a function code.
+pub fn class_of(fc: u8) -> Class
+    ensures { λ r. ⌜ r ≡ classOf fc ⌝ }
+{
+    let number = class_number(fc);
+    match number {
+        0 => Class::Opening,
+        1 => Class::Counted,
+        2 => Class::Uncounted,
+        3 => Class::Bare,
+        4 => Class::Data,
+        _ => Class::Reserved,
+    }
+}
+
+pub(crate) fn reserved(fc: u8) -> bool
+    ensures { λ r. ⌜ r ≡ isReserved (classOf fc) ⌝ }
+{
+    class_number(fc) == 5
+}

@@ -1,0 +1,51 @@
+// The fields of a telegram, and its checksum.
+ghost use mathlib.Core.Path.{_≡_};
+ghost use Prim.Native.Nat.{_≤_};
+ghost use lib.ListN.{length};
+ghost use Rattle.fdl.specs.Telegram.{sapLength, checksumOf};
+
+// The start byte's format of a telegram with fields.
+pub enum Format {
+    Sd1,
+    Sd2,
+    Sd3,
+}
+
+// A service access point (SAP), where the address has the bit that says that one follows.
+pub enum Sap {
+    Absent,
+    Present(u8),
+}
+
+// Addresses are the low seven bits; bit 7 is the presence of the access point.
+pub struct Header {
+    pub da: u8,
+    pub sa: u8,
+    pub fc: u8,
+    pub dsap: Sap,
+    pub ssap: Sap,
+}
+
+// How many bytes of the PDU an access point takes.
+pub(crate) fn sap_length(sap: Sap) -> usize
+    ensures { λ r. ⌜ r ≡ sapLength sap ⌝ }
+{
+    match sap {
+        Sap::Absent => 0,
+        Sap::Present(_) => 1,
+    }
+}
+
+// The checksum of DA to the last byte of the PDU; the bound keeps the sum within 16 bits.
+pub(crate) fn checksum(part: &[u8]) -> u8
+    requires { ⌜ length (now part) ≤ 249 ⌝ }
+    ensures { λ r. ⌜ r ≡ checksumOf (now (part .entry)) ⌝ }
+{
+    let mut sum: u16 = 0;
+    let mut i = 0;
+    while i < part.len() {
+        sum += part[i] as u16;
+        i += 1;
+    }
+    (sum % 256) as u8
+}
