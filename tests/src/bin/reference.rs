@@ -1,0 +1,92 @@
+//! The independent program as a command, to be run beside the library's
+//! programs on the same input.
+
+#![forbid(unsafe_code)]
+
+use rabtunex_tests::reference::text;
+use rabtunex_tests::samples;
+use std::io::{self, Read, Write};
+use std::process::ExitCode;
+
+const USAGE: &str = "usage: reference show|vectors|make-vectors";
+
+fn main() -> ExitCode {
+    let arguments: Vec<String> = std::env::args().skip(1).collect();
+    let output = match arguments.as_slice() {
+        [command] => run(command),
+        _ => Err(String::from(USAGE)),
+    };
+    let printed = output.and_then(|text| {
+        let written = io::stdout().write_all(text.as_bytes());
+        written.map_err(|error| error.to_string())
+    });
+    match printed {
+        Ok(()) => ExitCode::SUCCESS,
+        Err(message) => {
+            eprintln!("{message}");
+            ExitCode::FAILURE
+        }
+    }
+}
+
+/// What a command prints, or why it cannot.
+fn run(command: &str) -> Result<String, String> {
+    match command {
+        "show" => Ok(text::line(&input()?) + "\n"),
+        "vectors" => answer_vectors(&input()?),
+        "make-vectors" => Ok(make_vectors()),
+        _ => Err(String::from(USAGE)),
+    }
+}
+
+fn input() -> Result<Vec<u8>, String> {
+    let mut bytes = Vec::new();
+    match io::stdin().read_to_end(&mut bytes) {
+        Ok(_) => Ok(bytes),
+        Err(error) => Err(error.to_string()),
+    }
+}
+
+fn answer_vectors(vectors: &[u8]) -> Result<String, String> {
+    let vectors = std::str::from_utf8(vectors).map_err(|error| error.to_string())?;
+    text::answers(vectors).map_err(|line| format!("line {line} is malformed"))
+}
+
+fn make_vectors() -> String {
+    let mut vectors = String::new();
+    for group in samples::groups() {
+        vectors += &format!("# {}\n", group.name);
+        for telegram in group.telegrams {
+            vectors += &text::to_hex(&telegram);
+            vectors.push('\n');
+        }
+    }
+    vectors
+}
+
+#[cfg(test)]
+mod tests {
+    use super::*;
+
+    #[test]
+    fn vectors_are_answered_one_line_each() {
+        let vectors = make_vectors();
+        let answers = answer_vectors(vectors.as_bytes()).expect("well-formed");
+        let telegrams: Vec<Vec<u8>> = samples::groups()
+            .into_iter()
+            .flat_map(|group| group.telegrams)
+            .collect();
+        let expected: String = telegrams
+            .iter()
+            .map(|telegram| text::numbers(telegram) + "\n")
+            .collect();
+        assert_eq!(answers, expected);
+    }
+
+    #[test]
+    fn commands_that_are_none_are_refused() {
+        assert_eq!(run("Show"), Err(String::from(USAGE)));
+        assert!(answer_vectors(b"E5\nE\n").is_err());
+        assert!(answer_vectors(b"\xFF\n").is_err());
+    }
+}

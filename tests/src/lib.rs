@@ -1,0 +1,10 @@
+//! The comparison side of the tests: a second program for PROFIBUS telegrams,
+//! written from document 01 alone, and the seeded samples on which it and the
+//! library are run against each other.
+
+#![forbid(unsafe_code)]
+#![warn(missing_docs)]
+
+pub mod random;
+pub mod reference;
+pub mod samples;
