@@ -1,0 +1,164 @@
+//! The library's programs and the reference on the same input: the show program
+//! prints the reference's line, and the files that the vectors program is run on
+//! and held to are the reference's.
+
+#![forbid(unsafe_code)]
+
+use rabtunex_tests::random::Random;
+use rabtunex_tests::reference::text;
+use rabtunex_tests::samples::{self, Saps};
+use std::env;
+use std::fs;
+use std::io::{ErrorKind, Write};
+use std::path::{Path, PathBuf};
+use std::process::{Command, Stdio};
+use std::sync::Once;
+
+/// Names the repository, when it is not the one that this package is in.
+const ROOT_VARIABLE: &str = "RABTUNEX_ROOT";
+
+const SAMPLES_OF_EACH_KIND: usize = 40;
+
+/// One sample of a kind.
+type Make = fn(&mut Random) -> Vec<u8>;
+
+const KINDS: [(&str, Make); 11] = [
+    ("token", samples::token),
+    ("SD1", samples::sd1),
+    ("SD2", samples::any_sd2),
+    ("SD3", any_sd3),
+    ("one byte changed", |random| {
+        let telegram = samples::any_valid(random);
+        samples::with_one_byte_changed(random, &telegram)
+    }),
+    ("cut short", |random| {
+        let telegram = samples::any_valid(random);
+        samples::cut_short(random, &telegram)
+    }),
+    ("lengthened", |random| {
+        let telegram = samples::any_valid(random);
+        samples::lengthened(random, &telegram)
+    }),
+    ("one byte changed, FCS mended", |random| {
+        let frame = samples::any_frame(random);
+        samples::changed_and_mended(random, &frame)
+    }),
+    ("LE, LEr or second SD2 changed", |random| {
+        let sd2 = samples::any_sd2(random);
+        samples::with_length_bytes_changed(random, &sd2)
+    }),
+    ("any bytes", samples::noise),
+    ("any bytes after a start byte", samples::noise_after_start),
+];
+
+fn any_sd3(random: &mut Random) -> Vec<u8> {
+    let saps = *random.pick(&Saps::ALL);
+    samples::sd3(random, saps)
+}
+
+fn root() -> PathBuf {
+    match env::var_os(ROOT_VARIABLE) {
+        Some(root) => PathBuf::from(root),
+        None => Path::new(env!("CARGO_MANIFEST_DIR")).join(".."),
+    }
+}
+
+/// What the show program prints for these bytes.
+fn shown(bytes: &[u8]) -> String {
+    // The first run may build the program, which no two may do side by side.
+    static BUILT: Once = Once::new();
+    BUILT.call_once(|| drop(run_show(&[])));
+    run_show(bytes)
+}
+
+fn run_show(bytes: &[u8]) -> String {
+    let mut program = Command::new(root().join("show"))
+        .stdin(Stdio::piped())
+        .stdout(Stdio::piped())
+        .spawn()
+        .expect("show starts");
+    let written = program.stdin.take().expect("piped").write_all(bytes);
+    if let Err(error) = written {
+        // The program reads no more than can matter, and is done.
+        assert_eq!(error.kind(), ErrorKind::BrokenPipe, "{error}");
+    }
+    let output = program.wait_with_output().expect("show ends");
+    assert!(output.status.success(), "show: {}", output.status);
+    String::from_utf8(output.stdout).expect("text")
+}
+
+fn check_shown(name: &str, bytes: &[u8]) {
+    let expected = text::line(bytes) + "\n";
+    assert_eq!(shown(bytes), expected, "{name}: {bytes:02X?}");
+}
+
+#[test]
+fn every_worked_row_is_shown() {
+    let rows = samples::worked_rows();
+    for (name, bytes) in rows {
+        check_shown(name, bytes);
+    }
+    let mut long = samples::largest();
+    long.resize(100_000, 0);
+    let more = [
+        ("LE 249", samples::largest()),
+        ("LE 250", samples::largest_with_le_250()),
+        ("LE 250, one byte more", samples::one_longer_than_largest()),
+        ("nothing", Vec::new()),
+        ("100,000 bytes", long),
+    ];
+    for (name, bytes) in &more {
+        check_shown(name, bytes);
+    }
+    println!("worked rows shown: {}", rows.len() + more.len());
+}
+
+/// The two lines that document 01 gives itself.
+#[test]
+fn lines_of_document_01_are_shown() {
+    let status_call = shown(&[0x10, 0x07, 0x02, 0x49, 0x52, 0x16]);
+    assert_eq!(status_call, "SD1 to 7 from 2 fc 49\n");
+    let wrong_checksum = shown(&[0x10, 0x07, 0x02, 0x49, 0x53, 0x16]);
+    assert_eq!(wrong_checksum, "refused 6\n");
+}
+
+#[test]
+fn seeded_samples_are_shown() {
+    let random = &mut Random::new(2027);
+    for (name, make) in KINDS {
+        for _ in 0..SAMPLES_OF_EACH_KIND {
+            check_shown(name, &make(random));
+        }
+    }
+    let kinds = KINDS.len();
+    println!("seeded samples shown: {kinds} kinds of {SAMPLES_OF_EACH_KIND}");
+}
+
+#[test]
+fn vectors_are_the_references() {
+    let made = Command::new(env!("CARGO_BIN_EXE_reference"))
+        .arg("make-vectors")
+        .output()
+        .expect("reference runs");
+    assert!(made.status.success(), "reference: {}", made.status);
+    let made = String::from_utf8(made.stdout).expect("text");
+    let vectors = file_of_vectors("stdin");
+    check_same_lines("crates/vectors/stdin", &vectors, &made);
+    let answers = text::answers(&vectors).expect("well-formed");
+    let stored = file_of_vectors("stdout");
+    check_same_lines("crates/vectors/stdout", &stored, &answers);
+    println!("vectors compared: {}", answers.lines().count());
+}
+
+fn file_of_vectors(name: &str) -> String {
+    let path = root().join("crates/vectors").join(name);
+    fs::read_to_string(&path).unwrap_or_else(|error| panic!("{}: {error}", path.display()))
+}
+
+/// Names the first line that differs, where the whole text would be too long.
+fn check_same_lines(name: &str, file: &str, expected: &str) {
+    for (number, (line, wanted)) in (1..).zip(file.lines().zip(expected.lines())) {
+        assert_eq!(line, wanted, "{name}, line {number}");
+    }
+    assert_eq!(file.len(), expected.len(), "{name}: bytes");
+}
