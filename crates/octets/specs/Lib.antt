@@ -4,3 +4,4 @@ pub mod Elements
 pub mod Number
 pub mod Front
 pub mod Part
+pub mod Fixed

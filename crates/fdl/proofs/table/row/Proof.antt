@@ -3,7 +3,6 @@ use mathlib.Core.Path.{_≡_, sym, ap}
 use Prim.Native.Nat.{ℕ, zero, suc, _≤_, zero-le}
 use native.Mathlib.Omega.{arith}
 use Rattle.fdl.specs.Code.{classOf, rowOf}
-use borrow.Author.Needs.{needs}
 use Rattle.fdl.proofs.table.row.Statement.{statement}
 use Rattle.fdl.proofs.table.row.Tie as tie
 

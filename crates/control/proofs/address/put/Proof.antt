@@ -1,0 +1,60 @@
+-- `control::address::put` meets its contract. Four bytes are stored in turn.
+use mathlib.Core.Path.{_≡_, refl}
+use mathlib.Core.Bool.{Bool, true, false}
+use native.Mathlib.Omega.{arith}
+use mir.Val.{boolByte}
+use lib.ListN.{length-set}
+use borrow.Author.Needs.{needs}
+use Rattle.octets.specs.Choice.{pick}
+use Rattle.octets.specs.Front.{stores}
+use Rattle.control.specs.Address.{fixedBytes}
+use Rattle.control.proofs.address.put.Statement.{statement}
+use Rattle.control.proofs.address.put.Tie as tie
+
+-- a bool as a byte
+as-byte : (b : Bool) → boolByte b ≡ pick b 1 0
+as-byte true = refl
+as-byte false = refl
+
+slice-write-out : tie.Need-slice-write-out
+slice-write-out c = search needs
+
+cast-out : tie.Need-cast-out
+cast-out c = search needs
+
+slice-write-out-2 : tie.Need-slice-write-out-2
+slice-write-out-2 c = simp length-set (omega arith)
+
+cast-out-2 : tie.Need-cast-out-2
+cast-out-2 c = search needs
+
+slice-write-out-3 : tie.Need-slice-write-out-3
+slice-write-out-3 c = simp length-set (omega arith)
+
+cast-out-3 : tie.Need-cast-out-3
+cast-out-3 c = search needs
+
+slice-write-out-4 : tie.Need-slice-write-out-4
+slice-write-out-4 c = search needs
+
+same-length : tie.Need-same-length
+same-length c = search needs
+
+returns : tie.Need-returns
+returns c =
+    let b = c .before in
+    rw (as-byte (b .args .fields .locked)) (stores (fixedBytes (b .args .fields)) (b .args .out .now) (b .pre))
+
+pub put-spec : {M : Type 1} → statement M
+put-spec =
+    tie.close
+    (tie.spec
+    slice-write-out
+    cast-out
+    slice-write-out-2
+    cast-out-2
+    slice-write-out-3
+    cast-out-3
+    slice-write-out-4
+    same-length
+    returns)

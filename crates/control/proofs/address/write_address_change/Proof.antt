@@ -1,0 +1,76 @@
+-- `control::address::write_address_change` meets its contract. The tests are the verdict, and 4 and the rest's length are all bytes.
+use mathlib.Core.Path.{_≡_}
+use mathlib.Core.List.{List}
+use Prim.Native.Nat.{ℕ, _+_}
+use native.Mathlib.Omega.{arith}
+use lib.ListN.{length, length-append}
+use denote.Ref.{now}
+use borrow.Author.Needs.{needs}
+use borrow.Author.Tests.{lt-ltb, le-ltb, eq-eqb, ne-eqb}
+use Rattle.octets.specs.Front.{fine, refused, too-small, stored}
+use Rattle.control.specs.Address.{verdictOf, fixedBytes, bytesFor, verdictFor}
+use Rattle.control.proofs.address.write_address_change.Statement.{statement}
+use Rattle.control.proofs.address.write_address_change.Tie as tie
+
+-- the bytes to be written
+abbrev bytesAt : tie.Start → List ℕ
+bytesAt b = bytesFor (b .args .fields) (now (b .args .rest))
+
+sized : (b : tie.Start) → length (bytesAt b) ≡ 4 + length (now (b .args .rest))
+sized b = length-append (fixedBytes (b .args .fields)) (now (b .args .rest))
+
+add-size : tie.Need-add-size
+add-size c = search needs
+
+returns : tie.Need-returns
+unfolding verdictOf
+returns c =
+    let b = c .before .before .before in
+    simp (ne-eqb _ _ (c .if1 .taken)) (refused 20 (bytesAt b) (now (b .args .out)))
+
+returns-2 : tie.Need-returns-2
+unfolding verdictOf
+returns-2 c =
+    let e = c .before .before in
+    let b = e .before .before .before in
+    simp (eq-eqb _ _ (e .if1 .left), lt-ltb _ _ (c .if2 .taken)) (refused 21 (bytesAt b) (now (b .args .out)))
+
+-- where both tests are passed
+passed : (c : tie.Else2) → let a = c .before .before .before .before .before .args in verdictFor (a .fields) (now (a .rest)) ≡ fine
+unfolding verdictOf
+passed c = simp (eq-eqb _ _ (c .before .before .if1 .left), le-ltb _ _ (c .if2 .left))
+
+returns-3 : tie.Need-returns-3
+returns-3 c =
+    let b = c .before .before .before .before .before .before in
+    rw (passed (c .before)) (too-small (bytesAt b) (now (b .args .out)) (omega (arith, sized b)))
+
+put-requires : tie.Need-put-requires
+put-requires c κs = search needs
+
+put-rest-requires : tie.Need-put-rest-requires
+put-rest-requires c κs = search needs
+
+same-length : tie.Need-same-length
+same-length c = search needs
+
+returns-4 : tie.Need-returns-4
+returns-4 c =
+    let r = c .before .before in
+    let p = r .before .before .before .before in
+    let e = p .before .before in
+    let b = e .before .before .before .before .before .before in
+    rw (passed (e .before)) (stored (omega (arith, sized b)) (r .put-rest .ensures (fixedBytes (b .args .fields)) (now (b .args .out)) (p .put .ensures)))
+
+pub write-address-change-spec : {M : Type 1} → statement M
+write-address-change-spec =
+    tie.close
+    (tie.spec
+    add-size
+    returns
+    returns-2
+    returns-3
+    put-requires
+    put-rest-requires
+    same-length
+    returns-4)

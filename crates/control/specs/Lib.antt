@@ -1,0 +1,4 @@
+pub mod Address
+pub mod Command
+pub mod Lemmas
+pub mod Laws

@@ -1,0 +1,6 @@
+pub mod Fields
+pub mod Reading
+pub mod Writing
+pub mod Timing
+pub mod Lemmas
+pub mod Laws
