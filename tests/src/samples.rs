@@ -2,7 +2,14 @@
 //! that were never a telegram.
 //!
 //! The samples are put together here byte by byte and not with the reference
-//! writer, so that each is a check of the other.
+//! writer, so that each is a check of the other. Those of the services' data are
+//! in modules of their own.
+
+pub mod configuration;
+pub mod control;
+pub mod diagnosis;
+pub mod parameters;
+pub mod services;
 
 use crate::random::Random;
 use crate::reference::telegram::{Format, Telegram, ED, SC, SD1, SD2, SD3, SD4};
@@ -270,6 +277,15 @@ pub fn lengthened(random: &mut Random, telegram: &[u8]) -> Vec<u8> {
     [telegram, &random.bytes(count)].concat()
 }
 
+/// The bytes with one of them changed, some cut off or some added.
+pub fn changed_cut_or_lengthened(random: &mut Random, bytes: &[u8]) -> Vec<u8> {
+    match random.below(3) {
+        0 => with_one_byte_changed(random, bytes),
+        1 => cut_short(random, bytes),
+        _ => lengthened(random, bytes),
+    }
+}
+
 /// The frame with one byte between the start bytes and FCS changed and the
 /// checksum mended, which lets the faults after it show.
 pub fn changed_and_mended(random: &mut Random, frame: &[u8]) -> Vec<u8> {
@@ -373,16 +389,31 @@ fn mostly_up_to(random: &mut Random, limit: u8) -> u8 {
     }
 }
 
+/// A number of `low`..=`high`, every second time of `low`..=`short`.
+fn often_up_to(random: &mut Random, low: usize, short: usize, high: usize) -> usize {
+    let most = *random.pick(&[short, high]);
+    random.between(low, most)
+}
+
+/// Mostly a byte with no other bits than these; else any byte.
+fn mostly_within(random: &mut Random, bits: u8) -> u8 {
+    match random.below(32) {
+        0 => random.byte(),
+        _ => random.byte() & bits,
+    }
+}
+
 /// Samples of one kind.
 #[derive(Clone, Debug)]
 pub struct Group {
     /// What they are.
     pub name: &'static str,
-    /// Their bytes, at most 300 each.
-    pub telegrams: Vec<Vec<u8>>,
+    /// Their bytes.
+    pub inputs: Vec<Vec<u8>>,
 }
 
-/// The samples of the vectors: the same ones at every call.
+/// The telegrams of the vectors, at most 300 bytes each: the same ones at every
+/// call.
 pub fn groups() -> Vec<Group> {
     let random = &mut Random::new(2025);
     let worked = worked_rows().iter().map(|(_, bytes)| bytes.to_vec());
@@ -398,8 +429,8 @@ pub fn groups() -> Vec<Group> {
     groups
 }
 
-fn group(name: &'static str, telegrams: Vec<Vec<u8>>) -> Group {
-    Group { name, telegrams }
+fn group(name: &'static str, inputs: Vec<Vec<u8>>) -> Group {
+    Group { name, inputs }
 }
 
 fn valid_groups(random: &mut Random) -> Vec<Group> {
@@ -584,7 +615,7 @@ mod tests {
     #[test]
     fn groups_reach_every_outcome_of_reading() {
         let groups = groups();
-        let telegrams: Vec<&Vec<u8>> = groups.iter().flat_map(|group| &group.telegrams).collect();
+        let telegrams: Vec<&Vec<u8>> = groups.iter().flat_map(|group| &group.inputs).collect();
         assert!((400..450).contains(&telegrams.len()), "{}", telegrams.len());
         assert!(telegrams.iter().all(|telegram| telegram.len() <= 300));
         let refusals: BTreeSet<u8> = telegrams
@@ -594,7 +625,7 @@ mod tests {
         assert_eq!(refusals, (1..=9).collect());
         for group in groups {
             if group.name.starts_with("valid") {
-                assert!(group.telegrams.iter().all(|bytes| read(bytes).is_ok()));
+                assert!(group.inputs.iter().all(|bytes| read(bytes).is_ok()));
             }
         }
     }

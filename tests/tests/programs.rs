@@ -4,18 +4,16 @@
 
 #![forbid(unsafe_code)]
 
+mod repository;
+
 use rabtunex_tests::random::Random;
 use rabtunex_tests::reference::text;
 use rabtunex_tests::samples::{self, Saps};
-use std::env;
+use repository::root;
 use std::fs;
 use std::io::{ErrorKind, Write};
-use std::path::{Path, PathBuf};
 use std::process::{Command, Stdio};
 use std::sync::Once;
-
-/// Names the repository, when it is not the one that this package is in.
-const ROOT_VARIABLE: &str = "RABTUNEX_ROOT";
 
 const SAMPLES_OF_EACH_KIND: usize = 40;
 
@@ -54,13 +52,6 @@ const KINDS: [(&str, Make); 11] = [
 fn any_sd3(random: &mut Random) -> Vec<u8> {
     let saps = *random.pick(&Saps::ALL);
     samples::sd3(random, saps)
-}
-
-fn root() -> PathBuf {
-    match env::var_os(ROOT_VARIABLE) {
-        Some(root) => PathBuf::from(root),
-        None => Path::new(env!("CARGO_MANIFEST_DIR")).join(".."),
-    }
 }
 
 /// What the show program prints for these bytes.

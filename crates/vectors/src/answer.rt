@@ -1,44 +1,34 @@
 // The answer to a telegram: its refusal number; or 0, its kind (0 short confirmation, 1 token, 2
 // SD1, 3 SD2, 4 SD3), DA, SA, FC, DSAP, SSAP, and the start and the length of its user data.
+use crate::text::byte_field;
+use crate::text::decimal;
+use crate::text::field;
+use crate::text::text;
 use fdl::Format;
 use fdl::Header;
 use fdl::Reading;
 use fdl::Sap;
-use libc::STDOUT_FILENO;
-
-fn text(words: &[u8]) {
-    io::write_all(STDOUT_FILENO, words);
-}
-
-fn decimal(number: u64) {
-    io::print_decimal(STDOUT_FILENO, number);
-}
-
-fn field(number: u64) {
-    text(b" ");
-    decimal(number);
-}
 
 // 255 where there is none: no access point is above 63.
 fn access_point(sap: Sap) {
     match sap {
         Sap::Absent => field(255),
-        Sap::Present(number) => field(number as u64),
+        Sap::Present(number) => byte_field(number),
     }
 }
 
 fn fields(kind: u8, header: Header, start: usize, len: usize) {
     text(b"0");
-    field(kind as u64);
-    field(header.da as u64);
-    field(header.sa as u64);
-    field(header.fc as u64);
+    byte_field(kind);
+    byte_field(header.da);
+    byte_field(header.sa);
+    byte_field(header.fc);
     let dsap = header.dsap;
     access_point(dsap);
     let ssap = header.ssap;
     access_point(ssap);
-    field(start as u64);
-    field(len as u64);
+    field(start);
+    field(len);
 }
 
 // The fields of a telegram that has no more than addresses.
@@ -71,7 +61,7 @@ pub(crate) fn telegram(bytes: &[u8]) {
             start,
             len,
         } => fields(kind_of(format), header, start, len),
-        Reading::Refused(refusal) => decimal(refusal.number as u64),
+        Reading::Refused(refusal) => decimal(refusal.number as usize),
     }
     text(b"\n");
 }

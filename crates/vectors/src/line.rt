@@ -1,11 +1,40 @@
-// The text, byte by byte. A line that starts with # is a comment. Every other line is one telegram,
-// its bytes as two hex digits with single spaces between them; an empty line is the empty telegram.
+// The text, byte by byte. A line that starts with # is a comment. A line of = and a letter says what
+// the lines after it are; until then they are telegrams. Every other line is the bytes of one such
+// thing as two hex digits with single spaces between them; an empty line has no bytes.
 use crate::answer;
+use crate::configuration_line::configuration_line;
+use crate::control_line::address_line;
+use crate::control_line::command_line;
+use crate::diagnosis_line::diagnosis_line;
+use crate::parameters_line::parameters_line;
+use octets::Mode;
+
+// What a line's bytes are, by the letter that names it.
+enum Subject {
+    // t
+    Telegram,
+    // d
+    Diagnosis,
+    // p
+    Parameters,
+    // q
+    Dpv1Parameters,
+    // c
+    Configuration,
+    // a
+    AddressChange,
+    // g
+    GlobalCommand,
+}
 
 // What a line has come to.
 enum Place {
     Start,
     Comment,
+    // After =.
+    Naming,
+    // After the letter that follows it.
+    Named,
     // After the space that follows a byte.
     Space,
     // After the first digit of a byte, which is this.
@@ -15,8 +44,16 @@ enum Place {
     Malformed,
 }
 
-// A line as far as it has come. The first count bytes of a buffer beside it are its telegram's.
+// A line as far as it has come. The first count bytes of a buffer beside it are those that it has
+// given.
 pub(crate) struct Line {
+    place: Place,
+    subject: Subject,
+    count: usize,
+}
+
+// What a byte's second digit leads to.
+struct Digits {
     place: Place,
     count: usize,
 }
@@ -26,11 +63,16 @@ enum Hex {
     Other,
 }
 
-pub(crate) fn start() -> Line {
+fn start_of(subject: Subject) -> Line {
     Line {
         place: Place::Start,
+        subject,
         count: 0,
     }
+}
+
+pub(crate) fn start() -> Line {
+    start_of(Subject::Telegram)
 }
 
 fn hex_of(byte: u8) -> Hex {
@@ -49,24 +91,25 @@ fn first_digit(byte: u8) -> Place {
     }
 }
 
-// Bytes past the end of the buffer are dropped. That changes no answer: a reading depends on the
-// first 256 bytes alone (theorem first-256-bytes of the crate fdl), and the buffer has 512.
-fn second_digit(high: u8, byte: u8, count: usize, telegram: &mut [u8]) -> Line {
+// Bytes past the end of the buffer are dropped. That changes no answer: a reading of a telegram
+// depends on the first 256 bytes alone (theorem first-256-bytes of the crate fdl), no data of a service
+// has more than 244, and the buffer has 512.
+fn second_digit(high: u8, byte: u8, count: usize, bytes: &mut [u8]) -> Digits {
     match hex_of(byte) {
         Hex::Digit(low) => {
-            if telegram.len() <= count {
-                return Line {
+            if bytes.len() <= count {
+                return Digits {
                     place: Place::Byte,
                     count,
                 };
             }
-            telegram[count] = (high << 4) | low;
-            Line {
+            bytes[count] = (high << 4) | low;
+            Digits {
                 place: Place::Byte,
                 count: count + 1,
             }
         }
-        Hex::Other => Line {
+        Hex::Other => Digits {
             place: Place::Malformed,
             count,
         },
@@ -75,10 +118,12 @@ fn second_digit(high: u8, byte: u8, count: usize, telegram: &mut [u8]) -> Line {
 
 fn after_start(byte: u8) -> Place {
     if byte == b'#' {
-        Place::Comment
-    } else {
-        first_digit(byte)
+        return Place::Comment;
     }
+    if byte == b'=' {
+        return Place::Naming;
+    }
+    first_digit(byte)
 }
 
 fn after_byte(byte: u8) -> Place {
@@ -89,41 +134,93 @@ fn after_byte(byte: u8) -> Place {
     }
 }
 
+fn named(byte: u8, subject: Subject) -> Line {
+    let subject = match byte {
+        b't' => Subject::Telegram,
+        b'd' => Subject::Diagnosis,
+        b'p' => Subject::Parameters,
+        b'q' => Subject::Dpv1Parameters,
+        b'c' => Subject::Configuration,
+        b'a' => Subject::AddressChange,
+        b'g' => Subject::GlobalCommand,
+        _ => {
+            return Line {
+                place: Place::Malformed,
+                subject,
+                count: 0,
+            };
+        }
+    };
+    Line {
+        place: Place::Named,
+        subject,
+        count: 0,
+    }
+}
+
+fn answer_to(subject: Subject, bytes: &[u8], out: &mut [u8]) {
+    match subject {
+        Subject::Telegram => answer::telegram(bytes),
+        Subject::Diagnosis => diagnosis_line(bytes, out),
+        Subject::Parameters => parameters_line(bytes, Mode::Dpv0, out),
+        Subject::Dpv1Parameters => parameters_line(bytes, Mode::Dpv1, out),
+        Subject::Configuration => configuration_line(bytes, out),
+        Subject::AddressChange => address_line(bytes, out),
+        Subject::GlobalCommand => command_line(bytes, out),
+    }
+}
+
 // The end of a line.
-fn end(place: Place, telegram: &[u8]) {
+fn end(place: Place, subject: Subject, bytes: &[u8], out: &mut [u8]) {
     match place {
-        Place::Start => answer::telegram(telegram),
+        Place::Start => answer_to(subject, bytes, out),
         Place::Comment => {}
-        Place::Byte => answer::telegram(telegram),
+        Place::Named => {}
+        Place::Byte => answer_to(subject, bytes, out),
         _ => answer::malformed(),
     }
 }
 
-// The line after one more byte of text.
-fn after(line: Line, byte: u8, telegram: &mut [u8]) -> Line {
+// The line after one more byte of text. Writing goes to out.
+fn after(line: Line, byte: u8, bytes: &mut [u8], out: &mut [u8]) -> Line {
     let place = line.place;
+    let subject = line.subject;
     let count = line.count;
     if byte == b'\n' {
-        end(place, octets::part(telegram, 0, count));
-        return start();
+        end(place, subject, octets::part(bytes, 0, count), out);
+        return start_of(subject);
     }
     let next = match place {
         Place::Start => after_start(byte),
         Place::Comment => Place::Comment,
+        Place::Naming => return named(byte, subject),
+        Place::Named => Place::Malformed,
         Place::Space => first_digit(byte),
-        Place::Digit(high) => return second_digit(high, byte, count, telegram),
+        Place::Digit(high) => {
+            let digits = second_digit(high, byte, count, bytes);
+            let place = digits.place;
+            return Line {
+                place,
+                subject,
+                count: digits.count,
+            };
+        }
         Place::Byte => after_byte(byte),
         Place::Malformed => Place::Malformed,
     };
-    Line { place: next, count }
+    Line {
+        place: next,
+        subject,
+        count,
+    }
 }
 
 // The line after a part of the text.
-pub(crate) fn after_part(line: Line, part: &[u8], telegram: &mut [u8]) -> Line {
+pub(crate) fn after_part(line: Line, part: &[u8], bytes: &mut [u8], out: &mut [u8]) -> Line {
     let mut now = line;
     let mut i = 0;
     while i < part.len() {
-        now = after(now, part[i], telegram);
+        now = after(now, part[i], bytes, out);
         i += 1;
     }
     now

@@ -1,7 +1,13 @@
-// Telegrams as hex text on standard input, and the answer to each as a line of decimal numbers on
-// standard output: an independent program answers the same text, and the two are compared.
+// Telegrams and the data of services as hex text on standard input, and the answer to each as a line
+// on standard output: an independent program answers the same text, and the two are compared.
 mod answer;
+mod configuration_line;
+mod control_line;
+mod diagnosis_line;
 mod line;
+mod parameters_line;
+mod service;
+mod text;
 
 use libc::STDIN_FILENO;
 
@@ -9,7 +15,8 @@ use libc::STDIN_FILENO;
 // from a number that no run uses up.
 fn main() {
     let mut part = io::large_buffer();
-    let mut telegram = [0u8; 512];
+    let mut bytes = [0u8; 512];
+    let mut out = [0u8; 256];
     let mut line = line::start();
     let mut turns = u64::MAX;
     while 0 < turns {
@@ -17,7 +24,7 @@ fn main() {
         if n == 0 {
             break;
         }
-        line = line::after_part(line, &part[..n], &mut telegram);
+        line = line::after_part(line, &part[..n], &mut bytes, &mut out);
         turns -= 1;
     }
     line::input_end(line);

@@ -4,7 +4,7 @@
 #![forbid(unsafe_code)]
 
 use rabtunex_tests::reference::text;
-use rabtunex_tests::samples;
+use rabtunex_tests::samples::{self, services, Group};
 use std::io::{self, Read, Write};
 use std::process::ExitCode;
 
@@ -56,12 +56,19 @@ fn make_vectors() -> String {
     let mut vectors = String::new();
     for group in samples::groups() {
         vectors += &format!("# {}\n", group.name);
-        for telegram in group.telegrams {
-            vectors += &text::to_hex(&telegram);
-            vectors.push('\n');
-        }
+        vectors += &lines(&group);
+    }
+    for (service, group) in services::groups() {
+        let (letter, service) = (service.letter(), service.name());
+        vectors += &format!("={letter}\n# {service}: {}\n", group.name);
+        vectors += &lines(&group);
     }
     vectors
+}
+
+fn lines(group: &Group) -> String {
+    let inputs = group.inputs.iter();
+    inputs.map(|bytes| text::to_hex(bytes) + "\n").collect()
 }
 
 #[cfg(test)]
@@ -72,15 +79,22 @@ mod tests {
     fn vectors_are_answered_one_line_each() {
         let vectors = make_vectors();
         let answers = answer_vectors(vectors.as_bytes()).expect("well-formed");
-        let telegrams: Vec<Vec<u8>> = samples::groups()
-            .into_iter()
-            .flat_map(|group| group.telegrams)
-            .collect();
-        let expected: String = telegrams
-            .iter()
-            .map(|telegram| text::numbers(telegram) + "\n")
-            .collect();
+        let mut expected = String::new();
+        for telegram in samples::groups().iter().flat_map(|group| &group.inputs) {
+            expected += &(text::numbers(telegram) + "\n");
+        }
+        for (service, group) in services::groups() {
+            for bytes in group.inputs {
+                expected += &(service.answer(&bytes) + "\n");
+            }
+        }
         assert_eq!(answers, expected);
+    }
+
+    #[test]
+    fn vectors_stay_small() {
+        let size = make_vectors().len();
+        assert!(size < 200_000, "{size} bytes");
     }
 
     #[test]

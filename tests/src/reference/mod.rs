@@ -1,10 +1,22 @@
 //! The independent program, one module for each part of document 01.
 
+pub mod configuration;
+pub mod control;
+pub mod diagnosis;
 pub mod fields;
+pub mod parameters;
+pub mod service_text;
 pub mod telegram;
 pub mod text;
 
-/// The refusal numbers of document 01 that telegrams can get.
+#[cfg(test)]
+mod expect;
+
+/// The longest data of a service, and the most inputs or outputs of a slave.
+const LONGEST_DATA: usize = 244;
+
+/// The refusal numbers of document 01 that telegrams and the services' data can
+/// get.
 pub mod refusal {
     /// The bytes end early.
     pub const SHORT: u8 = 1;
@@ -26,6 +38,36 @@ pub mod refusal {
     pub const EXTENSION: u8 = 9;
     /// The lent output is too small.
     pub const OUTPUT: u8 = 11;
-    /// A field of the caller's telegram is out of range.
+    /// A field of the caller's telegram, or the position of a walk, is out of
+    /// range.
     pub const FIELD: u8 = 12;
+    /// The length of a service's data is wrong.
+    pub const DATA_LENGTH: u8 = 20;
+    /// A fixed bit or a ranged byte is wrong, or a field does not fit its bits.
+    pub const BITS: u8 = 21;
+    /// The Ext_Diag bit and the blocks disagree.
+    pub const EXT_DIAG: u8 = 22;
+    /// The header of a diagnosis block is reserved or has a length below 2.
+    pub const BLOCK_HEADER: u8 = 23;
+    /// A diagnosis block or a module runs past the data.
+    pub const PAST_END: u8 = 24;
+    /// A code of a channel block is reserved.
+    pub const CHANNEL_CODE: u8 = 25;
+    /// The vendor count of a module is 15.
+    pub const VENDOR_COUNT: u8 = 26;
+    /// A configuration has more than 244 input or 244 output bytes.
+    pub const PROCESS_DATA: u8 = 27;
+}
+
+/// Stores the parts one after the other at the front of `out` and answers their
+/// length together; when they do not fit, nothing is stored.
+fn store<const N: usize>(parts: [&[u8]; N], out: &mut [u8]) -> Result<usize, u8> {
+    let total = parts.iter().map(|part| part.len()).sum();
+    let mut rest = out.get_mut(..total).ok_or(refusal::OUTPUT)?;
+    for part in parts {
+        let (front, back) = rest.split_at_mut(part.len());
+        front.copy_from_slice(part);
+        rest = back;
+    }
+    Ok(total)
 }

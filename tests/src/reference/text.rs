@@ -1,12 +1,20 @@
-//! Telegrams as lines of text: what the show program prints, and the vectors.
+//! Telegrams as lines of text: what the show program prints, and the vectors,
+//! in which the data of services stands too.
 //!
 //! In a vectors text every line ends with a newline. A line that starts with
-//! `#` is a comment; any other is one telegram, two hex digits for each byte
-//! with single spaces between them, and an empty line is the empty telegram.
+//! `#` is a comment. One that starts with `=` says by one letter what the lines
+//! after it are: `t` for telegrams, which those before any such line are too,
+//! and a service's own letter for its data. Any other line is the bytes of one
+//! telegram or of one service's data, two hex digits for each byte with single
+//! spaces between them, and an empty line is no bytes.
 
 use super::fields;
+use super::service_text::Service;
 use super::telegram::{read, Format, Telegram};
 use std::fmt::Write;
+
+/// What stands after `=` in the line that announces telegrams.
+pub const TELEGRAMS: &str = "t";
 
 /// The line that the show program prints for these bytes.
 pub fn line(bytes: &[u8]) -> String {
@@ -53,12 +61,21 @@ pub fn numbers(bytes: &[u8]) -> String {
 /// The answers to a vectors text, or the number of its first malformed line.
 pub fn answers(vectors: &str) -> Result<String, usize> {
     let mut answers = String::new();
+    let mut service: Option<Service> = None;
     for (number, line) in (1_usize..).zip(vectors.split_inclusive('\n')) {
         let line = line.strip_suffix('\n').ok_or(number)?;
         if line.starts_with('#') {
             continue;
         }
-        answers += &numbers(&from_hex(line).ok_or(number)?);
+        if let Some(letter) = line.strip_prefix('=') {
+            service = match letter {
+                TELEGRAMS => None,
+                _ => Some(Service::of_letter(letter).ok_or(number)?),
+            };
+            continue;
+        }
+        let bytes = from_hex(line).ok_or(number)?;
+        answers += &service.map_or_else(|| numbers(&bytes), |service| service.answer(&bytes));
         answers.push('\n');
     }
     Ok(answers)
@@ -157,9 +174,30 @@ mod tests {
     }
 
     #[test]
+    fn answers_are_of_what_was_announced_last() {
+        let vectors = "E5\n=g\n# group\n3E FF\n\n=p\n=d\n\n=c\n00\n=t\nE5\n\n=t\nDC 02 02\n";
+        let expected = [
+            "0 0 0 0 0 255 255 0 0\n",
+            "0 62 255 2 0 = 3e ff\n20\n",
+            "20 ! 12\n",
+            "0 1 0 0 0 0 | special - - 1 0 = 00 . = 00\n",
+            "0 0 0 0 0 255 255 0 0\n1\n",
+            "0 1 2 2 0 255 255 0 0\n",
+        ];
+        assert_eq!(answers(vectors), Ok(expected.concat()));
+        for service in Service::ALL {
+            let vectors = format!("={}\n02 0C\n", service.letter());
+            let answer = service.answer(&[0x02, 0x0C]) + "\n";
+            assert_eq!(answers(&vectors), Ok(answer));
+        }
+        assert_eq!(answers("=d\n=t\n").as_deref(), Ok(""));
+    }
+
+    #[test]
     fn malformed_vectors_name_their_line() {
         for malformed in [
-            "E", "E5 ", " E5", "E5  E5", "E5\tE5", "+5", "G5", "E5E5", "E5\r",
+            "E", "E5 ", " E5", "E5  E5", "E5\tE5", "+5", "G5", "E5E5", "E5\r", "=", "=x", "=D",
+            "=dd", "=d ", "=d\r", " =d", "= d", "==d", "=d E5", "E5 =d", "=\u{e9}",
         ] {
             assert_eq!(
                 answers(&format!("E5\n{malformed}\n")),
@@ -168,6 +206,7 @@ mod tests {
             );
         }
         assert_eq!(answers("E5\nE5"), Err(2), "the last newline is missing");
+        assert_eq!(answers("E5\n=d"), Err(2), "the last newline is missing");
     }
 
     #[test]

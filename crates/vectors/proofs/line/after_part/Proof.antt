@@ -1,5 +1,4 @@
--- The loop reads below the part's length alone, each turn leaves one byte fewer, and the telegram's buffer comes out of it as
--- long as it went in; the search finds every need.
+-- `vectors::line::after_part`: the loop reads below the part's length alone, each turn leaves one byte fewer, and both buffers keep their lengths; the search finds every need.
 use Prim.Native.Nat.{_-_}
 use mathlib.Core.Path.{_≡_}
 use lib.ListN.{length}
@@ -8,10 +7,37 @@ use Rattle.vectors.proofs.line.after_part.Statement.{statement}
 use Rattle.vectors.proofs.line.after_part.Tie as tie
 
 abbrev Inv-loop : tie.InvT-loop
-Inv-loop part telegram₀ now₀ i₀ telegram now i = length telegram ≡ length telegram₀
+Inv-loop part bytes₀ out₀ now₀ i₀ bytes out now i = (length bytes ≡ length bytes₀) × (length out ≡ length out₀)
 
 abbrev μ-loop : tie.MeasureT-loop
-μ-loop part telegram₀ now₀ i₀ telegram now i = length part - i
+μ-loop part bytes₀ out₀ now₀ i₀ bytes out now i = length part - i
+
+loop-holds : tie.Need-loop-holds Inv-loop μ-loop
+loop-holds c = search needs
+
+shared-slice-read-after : tie.Need-shared-slice-read-after Inv-loop μ-loop
+shared-slice-read-after c = search needs
+
+after-requires : tie.Need-after-requires Inv-loop μ-loop
+after-requires c κs = search needs
+
+add-i : tie.Need-add-i Inv-loop μ-loop
+add-i c = search needs
+
+loop-less : tie.Need-loop-less Inv-loop μ-loop
+loop-less c = search needs
+
+loop-again : tie.Need-loop-again Inv-loop μ-loop
+loop-again c = search needs
+
+same-length : tie.Need-same-length Inv-loop μ-loop
+same-length c = search needs
+
+same-length-2 : tie.Need-same-length-2 Inv-loop μ-loop
+same-length-2 c = search needs
+
+returns : tie.Need-returns Inv-loop μ-loop
+returns c = search needs
 
 pub after-part-spec : {M : Type 1} → statement M
 after-part-spec =
@@ -19,11 +45,12 @@ after-part-spec =
     (tie.spec
     Inv-loop
     μ-loop
-    (λ c. search needs)
-    (λ c. search needs)
-    (λ c κs. search needs)
-    (λ c. search needs)
-    (λ c. search needs)
-    (λ c. search needs)
-    (λ c. search needs)
-    (λ c. search needs))
+    loop-holds
+    shared-slice-read-after
+    after-requires
+    add-i
+    loop-less
+    loop-again
+    same-length
+    same-length-2
+    returns)

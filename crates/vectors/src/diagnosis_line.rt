@@ -1,0 +1,107 @@
+// The answer to a diagnosis: its header, the number of its blocks, and each block.
+use crate::service::again;
+use crate::service::refused;
+use crate::service::walk_refused;
+use crate::text::byte_field;
+use crate::text::field;
+use crate::text::text;
+use crate::text::word_field;
+
+// What stands behind the first n bytes.
+fn behind(bytes: &[u8], n: usize) -> &[u8] {
+    if bytes.len() < n {
+        return &bytes[..0];
+    }
+    &bytes[n..]
+}
+
+fn lowest(lowest: diagnosis::Lowest) {
+    match lowest {
+        diagnosis::Lowest::Module(number) => field(number),
+        diagnosis::Lowest::Nothing => text(b" -"),
+    }
+}
+
+fn block(block: diagnosis::Block) {
+    match block {
+        diagnosis::Block::Device { start, len } => {
+            text(b" | device");
+            field(start);
+            field(len);
+        }
+        diagnosis::Block::Module {
+            start,
+            len,
+            set,
+            lowest: first,
+        } => {
+            text(b" | module");
+            field(start);
+            field(len);
+            field(set);
+            lowest(first);
+        }
+        diagnosis::Block::Channel(channel) => {
+            text(b" | channel");
+            byte_field(channel.module);
+            byte_field(channel.direction);
+            byte_field(channel.channel);
+            byte_field(channel.kind);
+            byte_field(channel.error);
+        }
+    }
+}
+
+fn blocks_end(step: diagnosis::Step) {
+    match step {
+        diagnosis::Step::Block(_, _) => {}
+        diagnosis::Step::End => text(b" ."),
+        diagnosis::Step::Refused(refusal) => walk_refused(refusal),
+    }
+}
+
+// No data has as many blocks as the turns that are counted down.
+fn blocks(bytes: &[u8]) {
+    let mut position = diagnosis::first();
+    let mut turns: usize = 512;
+    while 0 < turns {
+        let step = diagnosis::next(bytes, position);
+        let diagnosis::Step::Block(found, next) = step else {
+            blocks_end(step);
+            return;
+        };
+        block(found);
+        position = next;
+        turns -= 1;
+    }
+}
+
+fn header(header: diagnosis::Header, count: usize) {
+    text(b"0");
+    byte_field(header.status1);
+    byte_field(header.status2);
+    byte_field(header.status3);
+    byte_field(header.master);
+    word_field(header.ident);
+    field(count);
+}
+
+pub(crate) fn diagnosis_line(bytes: &[u8], out: &mut [u8]) {
+    match diagnosis::read(bytes) {
+        diagnosis::Reading::Refused(refusal) => {
+            refused(refusal);
+            blocks(bytes);
+            text(b"\n");
+        }
+        diagnosis::Reading::Diagnosis {
+            header: found,
+            blocks: count,
+        } => {
+            header(found, count);
+            blocks(bytes);
+            let written = diagnosis::write(found, behind(bytes, 6), out);
+            again(written, out);
+            text(b"\n");
+        }
+    }
+}

@@ -1,0 +1,28 @@
+// What the answers to the data of services have in common: the refusal number; or 0 and the fields,
+// and after = the bytes that writing makes of them again. What a walk finds stands between the two,
+// also where the data is refused: an item after each bar, then a point for the end, or ! and the
+// refusal number.
+use crate::text::byte_field;
+use crate::text::decimal;
+use crate::text::hex_fields;
+use crate::text::text;
+use octets::Refusal;
+use octets::Written;
+
+pub(crate) fn refused(refusal: Refusal) {
+    decimal(refusal.number as usize);
+}
+
+pub(crate) fn walk_refused(refusal: Refusal) {
+    text(b" !");
+    byte_field(refusal.number);
+}
+
+// What was written to out.
+pub(crate) fn again(written: Written, out: &[u8]) {
+    text(b" =");
+    match written {
+        Written::Stored(n) => hex_fields(octets::part(out, 0, n)),
+        Written::Refused(number) => byte_field(number),
+    }
+}

@@ -1,0 +1,34 @@
+//! What every writer must do with its output, for the unit tests.
+
+use super::refusal;
+
+/// What stands in the output before a write.
+const UNTOUCHED: [u8; 300] = [0xAA; 300];
+
+/// The bytes are stored at the front of an output that has room for them, and
+/// nothing is stored in one that has not.
+pub fn written(bytes: &[u8], write: impl Fn(&mut [u8]) -> Result<usize, u8>) {
+    for room in [bytes.len(), UNTOUCHED.len()] {
+        let mut out = UNTOUCHED;
+        assert_eq!(write(&mut out[..room]), Ok(bytes.len()), "{bytes:02X?}");
+        let (front, rest) = out.split_at(bytes.len());
+        assert_eq!(front, bytes);
+        assert_eq!(rest, &UNTOUCHED[bytes.len()..]);
+    }
+    for room in [0, bytes.len() / 2, bytes.len() - 1] {
+        refused_within(room, refusal::OUTPUT, &write);
+    }
+}
+
+/// The number comes before that of too small an output, and nothing is stored.
+pub fn refused(number: u8, write: impl Fn(&mut [u8]) -> Result<usize, u8>) {
+    for room in [0, UNTOUCHED.len()] {
+        refused_within(room, number, &write);
+    }
+}
+
+fn refused_within(room: usize, number: u8, write: impl Fn(&mut [u8]) -> Result<usize, u8>) {
+    let mut out = UNTOUCHED;
+    assert_eq!(write(&mut out[..room]), Err(number), "room for {room}");
+    assert_eq!(out, UNTOUCHED);
+}
