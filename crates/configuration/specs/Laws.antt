@@ -9,6 +9,7 @@ use lib.ListN.{length, getD, take}
 use Rattle.octets.specs.Choice.{never}
 use Rattle.octets.specs.Bytes.{Bytes}
 use Rattle.octets.specs.Front.{fine}
+use Rattle.octets.specs.Fixed.{fault-fine}
 use Rattle.configuration.specs.Walk.{Walk, end, bad, more, nextOf, walkOf}
 use Rattle.configuration.specs.Reading.{inputOf, outputOf, totalsOf, readOf, inputOffsets, outputOffsets}
 use Rattle.configuration.specs.Writing.{moduleVerdict, moduleBytes, verdictIn, verdictOf}
@@ -54,7 +55,7 @@ configuration-reads-back s = by-reading (readOf s)
   where
     by-reading : (r : Reading) → verdictIn r ≡ fine → accepted r ≡ true
     by-reading (Configuration n i o) e = refl
-    by-reading (Refused r) e = absurd (let z : _≡_ {A = ℕ} 0 1 = cc in omega arith)
+    by-reading (Refused r) e = absurd (fault-fine e)
 
 -- (b), of the whole: what is accepted may be written as it is; and all its modules may be, and give the same bytes.
 pub record Kept (s : List ℕ) : Type 0 where

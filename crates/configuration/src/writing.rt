@@ -165,7 +165,7 @@ fn put_input(input: Side, vendor: &[u8], out: &mut [u8]) -> usize
     ensures { λ r. ⌜ AtFront (sideBytes input ++ now (vendor .entry)) (now (out .entry)) (now (out .exit)) r ⌝ }
 {
     let n = put_side(input, out);
-    n + octets::store(vendor, &mut out[n..])
+    octets::store_behind(n, vendor, out)
 }
 
 // Stores output's length byte and what follows it.

@@ -4,7 +4,6 @@ ghost use Prim.Native.Nat.{_≤_};
 ghost use lib.ListN.{length};
 ghost use Rattle.octets.specs.Front.{AtFront, answerBy, heldBy};
 ghost use Rattle.control.specs.Address.{readOf, fixedBytes, bytesFor, verdictFor};
-use crate::rest::put_rest;
 use octets::Refusal;
 use octets::Written;
 
@@ -83,5 +82,5 @@ pub fn write_address_change(fields: AddressChange, rest: &[u8], out: &mut [u8]) 
         return Written::Refused(11);
     }
     let n = put(fields, out);
-    Written::Stored(put_rest(n, rest, out))
+    Written::Stored(octets::store_behind(n, rest, out))
 }

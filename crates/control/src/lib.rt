@@ -2,7 +2,6 @@
 // commands groups of slaves (document 01, "Services by access point").
 mod address;
 mod command;
-mod rest;
 
 pub use address::AddressChange;
 pub use address::AddressReading;

@@ -11,6 +11,7 @@ use Rattle.octets.specs.Choice.{never}
 use Rattle.octets.specs.Bytes.{Bytes}
 use Rattle.octets.specs.Number.{number-bytes}
 use Rattle.octets.specs.Front.{fine}
+use Rattle.octets.specs.Fixed.{fault-fine}
 use Rattle.diagnosis.specs.Walk.{position, blockOf, nextOf}
 use Rattle.diagnosis.specs.Reading.{goodStatus1, goodStatus2, goodStatus3, goodMaster, extDiagAgrees, countOf, judge, headerOf, answered, readOf}
 use Rattle.diagnosis.specs.Writing.{diagnosisBytes, verdictBy, verdictOf}
@@ -20,7 +21,6 @@ use Rattle.diagnosis.specs.Lemmas.Found.{FindsAt, found-at, Within, with
 use Rattle.diagnosis.specs.Lemmas.Steps as step-case
 use Rattle.diagnosis.specs.Lemmas.Steps.{Steps, steps, walks, same}
 use Rattle.diagnosis.specs.Lemmas.Judged.{Good, judged}
-use Rattle.diagnosis.specs.Lemmas.Back.{fault-fine}
 use Rattle.diagnosis.specs.Lemmas.Reads.{Reads, read, unread, reads, header-again}
 use Rattle.diagnosis.specs.Lemmas.Written.{carries, stepped, after-blocks}
 use Rattle.diagnosis.specs.Lemmas.Again.{sized-taken, sized-same, channel-taken, channel-same}
@@ -52,7 +52,7 @@ module _ (h : Header) (blocks : List ℕ) (i : h .ident < 65536) where
 
   as-judged : (c : Count) → verdictBy c ≡ fine → contentsIn (diagnosisBytes h blocks) (answered h c) ≡ diagnosis h blocks
   as-judged (count.Blocks n) v = refl
-  as-judged (count.Refused r) v = absurd (fault-fine (r .number) v)
+  as-judged (count.Refused r) v = absurd (fault-fine v)
 
   -- (a) What is written reads back as the same header and the same blocks. (Every ident number of 16 bits is below 65536.)
   pub reads-back : verdictOf h blocks ≡ fine → contentsOf (diagnosisBytes h blocks) ≡ diagnosis h blocks

@@ -28,7 +28,7 @@ fn put_diagnosis(header: Header, blocks: &[u8], out: &mut [u8]) -> usize
     ensures { λ r. ⌜ AtFront (diagnosisBytes header (now (blocks .entry))) (now (out .entry)) (now (out .exit)) r ⌝ }
 {
     let n = put_header(header, out);
-    n + octets::store(blocks, &mut out[n..])
+    octets::store_behind(n, blocks, out)
 }
 
 // Writes a diagnosis from its header and the bytes of its blocks.
@@ -53,7 +53,7 @@ fn put_block(head: u8, bytes: &[u8], out: &mut [u8]) -> usize
     ensures { λ r. ⌜ AtFront (head ∷ now (bytes .entry)) (now (out .entry)) (now (out .exit)) r ⌝ }
 {
     out[0] = head;
-    1 + octets::store(bytes, &mut out[1..])
+    octets::store_behind(1, bytes, out)
 }
 
 // Writes a block whose header has its length, with the bits 7-6 that kind has.

@@ -7,9 +7,10 @@ use Prim.Native.Nat.{ℕ, _+_, _≤_, _<_}
 use native.Mathlib.Omega.{arith}
 use lib.ListN.{length, getD, take, set}
 use borrow.Author.Tests.{le-leb}
-use Rattle.octets.specs.Choice.{_and_, never}
+use Rattle.octets.specs.Choice.{never}
 use Rattle.octets.specs.Bytes.{Bytes}
 use Rattle.octets.specs.Front.{fine}
+use Rattle.octets.specs.Fixed.{fault-fine}
 use Rattle.fdl.specs.Code.{classOf}
 use Rattle.fdl.specs.Reading.{readBy, readOf}
 use Rattle.fdl.specs.Writing.{telegramOf, userStart, tokenVerdict, verdictBy}
@@ -17,7 +18,7 @@ use Rattle.fdl.specs.Contents.{Contents, nothing, confirmation, token, t
 use Rattle.fdl.specs.Lemmas.Extends.{within}
 use Rattle.fdl.specs.Lemmas.Reads as case
 use Rattle.fdl.specs.Lemmas.Reads.{Reads, reads}
-use Rattle.fdl.specs.Lemmas.Fields.{writable, fault-fine, start-small, pdu-small}
+use Rattle.fdl.specs.Lemmas.Fields.{writable, start-small, pdu-small}
 use Rattle.fdl.specs.Lemmas.Back.{fields-back, user-back, token-back, confirmation-back}
 use Rattle.fdl.specs.Lemmas.Again.{fine-again, same-again}
 use Rattle.fdl.specs.Lemmas.Changed.{changed}
@@ -32,7 +33,7 @@ use Rattle.fdl.specs.declared.reading.Reading.the-variants.{Telegram}
 module _ (classes : ℕ → Class) where
   -- (a) What is written reads back as the same fields and the same user data.
   pub reads-back : (x : Contents) → verdictFor classes x ≡ fine → contentsOf classes (bytesFor x) ≡ x
-  reads-back nothing e = absurd (fault-fine 12 e)
+  reads-back nothing e = absurd (fault-fine e)
   reads-back confirmation e = ap (contentsIn (bytesFor confirmation)) (confirmation-back classes)
   reads-back (token da sa) e = ap (contentsIn (bytesFor (token da sa))) (token-back classes da sa e)
   reads-back (telegram f h user) e =

@@ -108,7 +108,7 @@ fn put_user(ssap: Sap, user: &[u8], out: &mut [u8]) -> usize
     ensures { λ r. ⌜ AtFront (sapBytes ssap ++ now (user .entry)) (now (out .entry)) (now (out .exit)) r ⌝ }
 {
     let n = put_sap(ssap, out);
-    n + octets::store(user, &mut out[n..])
+    octets::store_behind(n, user, out)
 }
 
 fn put_pdu(dsap: Sap, ssap: Sap, user: &[u8], out: &mut [u8]) -> usize

@@ -27,13 +27,13 @@ pub by-verdict : {A : Type 0} (P : A → Type 0) {refuse : ℕ → A} (v : Verdi
 by-verdict P fine p q = q refl
 by-verdict P (fault k) p q = p k
 
--- a fault is not fine, so where a verdict is fine each of its tests failed
+-- a fault is not fine, so where a verdict is fine it has passed each test
 pub fault-fine : {k : ℕ} → fault k ≡ fine → ⊥
 fault-fine e = let z : _≡_ {A = ℕ} 0 1 = cc in omega arith
 
-pub fine-test : (b : Bool) (k : ℕ) (v : Verdict) → pick b (fault k) v ≡ fine → b ≡ false
-fine-test true k v e = absurd (fault-fine e)
-fine-test false k v e = refl
+pub passed : (k : ℕ) (b : Bool) (v : Verdict) → pick b (fault k) v ≡ fine → (b ≡ false) × (v ≡ fine)
+passed k true v e = absurd (fault-fine e)
+passed k false v e = (refl, e)
 
 -- ---- a number in the fixed bytes
 

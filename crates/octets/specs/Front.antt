@@ -1,6 +1,7 @@
 -- Storing at the front of a lent slice, and what every writer answers.
 use Prim.Native.Nat.{ℕ, _+_, _-_, _≤_, _<_}
-use mathlib.Core.Path.{_≡_, refl, sym, ap, _∙_}
+use mathlib.Core.Path.{_≡_, refl, sym, ap, _∙_, subst}
+use mathlib.Core.Bool.{true}
 use mathlib.Core.List.{List, _++_, append-assoc, append-nil}
 use lib.ListN.{length, take, drop, length-append, length-drop}
 use lib.Seq.{sets, sets-eq, take-append-seam, drop-append-seam, take-length, drop-length, drop-drop}
@@ -23,6 +24,13 @@ countOf p l = pick (leb (length p) (length l)) (length p) 0
 
 unfoldable pub frontOf : (p l : List ℕ) → List ℕ
 frontOf p l = pick (leb (length p) (length l)) (over p l) l
+
+-- Storing q behind the first n bytes of l, all of it or nothing: how many bytes then stand in front, and what l holds then.
+unfoldable pub countBehind : (n : ℕ) (q l : List ℕ) → ℕ
+countBehind n q l = pick (leb (n + length q) (length l)) (n + length q) 0
+
+unfoldable pub heldBehind : (n : ℕ) (q l : List ℕ) → List ℕ
+heldBehind n q l = pick (leb (n + length q) (length l)) (take n l ++ q ++ drop (n + length q) l) l
 
 -- what a storing function did that was given room: p stands in front, and its length was answered
 pub record AtFront (p before after : List ℕ) (count : ℕ) : Type 0 where
@@ -54,6 +62,10 @@ none-stored p l h = (simp (lt-leb _ _ h), simp (lt-leb _ _ h))
 pub all-stored : {p l after : List ℕ} {count : ℕ} → length p ≤ length l → AtFront p l after count → (count ≡ countOf p l) × (after ≡ frontOf p l)
 unfolding countOf frontOf
 all-stored h f = (simp (le-leb _ _ h) (f .counted), simp (le-leb _ _ h) (f .bytes))
+
+pub none-behind : (n : ℕ) (q l : List ℕ) → length l < n + length q → (0 ≡ countBehind n q l) × (l ≡ heldBehind n q l)
+unfolding countBehind heldBehind
+none-behind n q l h = (simp (lt-leb _ _ h), simp (lt-leb _ _ h))
 
 -- stores one after the other from the front
 pub stores : (p l : List ℕ) → length p ≤ length l → AtFront p l (sets l 0 p) (length p)
@@ -124,3 +136,21 @@ module _ {p l a : List ℕ} {n : ℕ} (f : AtFront p l a n) where
   pub both : {q m : List ℕ} {count : ℕ} → AtFront q (midOf n (length a - n) a) m count
       → AtFront (p ++ q) l (putMid n (length a - n) a m) (n + count)
   both {q} {m} g = rw (g .counted) (behind q (back n a m ∙ rw (g .bytes, front, lent n a, drop-drop, append-assoc)))
+
+  -- q stored by `store_behind`
+  pub both-stored : (q : List ℕ) {after : List ℕ} {count : ℕ} → count ≡ countBehind n q a → after ≡ heldBehind n q a
+      → length (p ++ q) ≤ length l → AtFront (p ++ q) l after count
+  unfolding countBehind heldBehind
+  both-stored q {after} c b h =
+      let fits : leb (n + length q) (length a) ≡ true = le-leb _ _ (within q h) in
+      let e : after ≡ p ++ q ++ drop (n + length q) a = rw (← front) (simp fits at b) in
+      subst (AtFront (p ++ q) l after) (sym (simp fits at c)) (behind q e)
+
+-- all of q stored behind the first n bytes
+pub all-behind : (n : ℕ) (l : List ℕ) {q m : List ℕ} {count : ℕ} → n + length q ≤ length l → AtFront q (midOf n (length l - n) l) m count
+    → (n + count ≡ countBehind n q l) × (putMid n (length l - n) l m ≡ heldBehind n q l)
+unfolding countBehind heldBehind
+all-behind n l {q} {m} h g = (
+  simp (le-leb _ _ h) (ap (λ (k : ℕ). n + k) (g .counted)),
+  simp (le-leb _ _ h) (back n l m ∙ rw (g .bytes, lent n l, drop-drop, append-assoc)),
+)

@@ -3,7 +3,7 @@
 ghost use mathlib.Core.Path.{_≡_};
 ghost use mathlib.Core.List.{_∷_, []};
 ghost use Rattle.octets.specs.Number.{numberOf, bytesOf};
-ghost use Rattle.octets.specs.Front.{countOf, frontOf};
+ghost use Rattle.octets.specs.Front.{countOf, frontOf, countBehind, heldBehind};
 ghost use Rattle.octets.specs.Part.{partOf};
 
 // Why a reader refuses its bytes: a refusal number of document 01.
@@ -78,6 +78,21 @@ pub fn store(source: &[u8], out: &mut [u8]) -> usize
         return 0;
     }
     bytes::copy(source, out)
+}
+
+// Stores source behind the n bytes in front of out, and answers how many bytes then stand in front:
+// those and all of source, or none where they do not fit.
+pub fn store_behind(n: usize, source: &[u8], out: &mut [u8]) -> usize
+    ensures count { λ r. ⌜ r ≡ countBehind n (now (source .entry)) (now (out .entry)) ⌝ }
+    ensures bytes { λ _. ⌜ now (out .exit) ≡ heldBehind n (now (source .entry)) (now (out .entry)) ⌝ }
+{
+    if out.len() < n {
+        return 0;
+    }
+    if out.len() - n < source.len() {
+        return 0;
+    }
+    n + bytes::copy(source, &mut out[n..])
 }
 
 // The part of bytes with len bytes from start, or the empty part where that does not lie inside.

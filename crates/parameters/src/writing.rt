@@ -86,7 +86,7 @@ fn put(fields: Parameters, user: &[u8], out: &mut [u8]) -> usize
     ensures { λ r. ⌜ AtFront (bytesFor fields (now (user .entry))) (now (out .entry)) (now (out .exit)) r ⌝ }
 {
     let n = put_front(fields, out);
-    n + octets::store(user, &mut out[n..])
+    octets::store_behind(n, user, out)
 }
 
 // Writes parameters from their fields and user bytes, in the version that their extension is of.

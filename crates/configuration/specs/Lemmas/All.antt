@@ -11,6 +11,7 @@ use Rattle.octets.specs.Choice.{never}
 use Rattle.octets.specs.Bytes.{Bytes}
 use Rattle.octets.specs.Part.{partOf}
 use Rattle.octets.specs.Front.{Verdict, fine, fault}
+use Rattle.octets.specs.Fixed.{fault-fine}
 use Rattle.configuration.specs.Walk.{Walk, end, bad, more, nextOf, walkOf}
 use Rattle.configuration.specs.Writing.{moduleVerdict, moduleBytes}
 use Rattle.configuration.specs.Contents.{endsWell, walkBytes, andThen, walkVerdict, Whole}
@@ -23,12 +24,12 @@ use Rattle.configuration.specs.declared.walk.Step.the-variants as step
 -- two verdicts that are fine together are fine
 both-fine : (a b : Verdict) → andThen a b ≡ fine → (a ≡ fine) × (b ≡ fine)
 both-fine fine b e = (refl, e)
-both-fine (fault k) b e = absurd (let z : _≡_ {A = ℕ} 0 1 = cc in omega arith)
+both-fine (fault k) b e = absurd (fault-fine e)
 
 pub all-back : (w : Walk) → walkVerdict w ≡ fine → walkOf (walkBytes w) 0 ≡ w
 unfolding walkOf
 all-back end e = refl
-all-back (bad r) e = absurd (let z : _≡_ {A = ℕ} 0 1 = cc in omega arith)
+all-back (bad r) e = absurd (fault-fine e)
 all-back (more m vendor w) e =
     let f = both-fine (moduleVerdict m vendor) (walkVerdict w) e in
     let t : List ℕ = moduleBytes m vendor in

@@ -8,7 +8,8 @@ use lib.ListN.{length, getD, length-append}
 use lib.Dec.{eqb, ltb}
 use borrow.Author.Tests.{le-ltb, ne-eqb, eqb-true, ltb-false, not-false}
 use Rattle.octets.specs.Choice.{pick, _and_, and-left, and-right, never}
-use Rattle.octets.specs.Front.{Verdict, fine, fault}
+use Rattle.octets.specs.Front.{fine, fault}
+use Rattle.octets.specs.Fixed.{passed}
 use Rattle.configuration.specs.Fields.{sideOf, generalOf, lengthByte, specialOf}
 use Rattle.configuration.specs.Walk.{one, specialIn, moduleIn}
 use Rattle.configuration.specs.Writing.{bit, presence, sideByte, goodUnits, goodSide, goodGeneral, generalByte, generalVerdict, sideBytes, specialByte, specialBytes, specialVerdict, verdictBy, bytesBy, vendorBy}
@@ -29,11 +30,6 @@ beq-eq true true e = refl
 beq-eq true false e = sym e
 beq-eq false true e = e
 beq-eq false false e = refl
-
--- a verdict that is fine passed its test
-passed : (k : ℕ) (b : Bool) (v : Verdict) → pick b (fault k) v ≡ fine → (b ≡ false) × (v ≡ fine)
-passed k true v e = absurd (let z : _≡_ {A = ℕ} 0 1 = cc in omega arith)
-passed k false v e = (refl, e)
 
 -- ---- a byte that has a side's units and flags, and other bits below the flags
 

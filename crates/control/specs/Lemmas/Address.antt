@@ -13,7 +13,7 @@ use Rattle.octets.specs.Elements.{part-elements}
 use Rattle.octets.specs.Number.{number-bytes}
 use Rattle.octets.specs.Part.{partOf}
 use Rattle.octets.specs.Front.{fine, fault}
-use Rattle.octets.specs.Fixed.{judged, by-verdict, fine-test, number-again, part-long, part-tiles}
+use Rattle.octets.specs.Fixed.{judged, by-verdict, passed, number-again, part-long, part-tiles}
 use Rattle.control.specs.Address.{verdictOf, refused, fieldsIn, readOf, fixedBytes, bytesFor, verdictFor}
 use Rattle.control.specs.declared.address.AddressChange.{AddressChange}
 use Rattle.control.specs.declared.address.AddressReading.{AddressReading}
@@ -58,7 +58,7 @@ module _ (s : List ℕ) (bytes : Bytes s) where
     long : 4 ≤ length s
     unfolding verdictOf
     long =
-        let four : length s ≡ 4 = eqb-true _ _ (not-false _ (fine-test (not (eqb (length s) 4)) 20 (pick (ltb 125 (getD s 0 0)) (fault 21) fine) good)) in
+        let four : length s ≡ 4 = eqb-true _ _ (not-false _ (passed 20 (not (eqb (length s) 4)) (pick (ltb 125 (getD s 0 0)) (fault 21) fine) good .0)) in
         omega arith
 
     taken : verdictFor (fieldsIn s) (partOf s 4 (length s - 4)) ≡ fine

@@ -11,7 +11,7 @@ use Rattle.octets.specs.Choice.{pick}
 use Rattle.octets.specs.Elements.{part-elements}
 use Rattle.octets.specs.Part.{partOf}
 use Rattle.octets.specs.Front.{fine, fault}
-use Rattle.octets.specs.Fixed.{judged, by-verdict, fine-test, part-long, part-tiles}
+use Rattle.octets.specs.Fixed.{judged, by-verdict, passed, part-long, part-tiles}
 use Rattle.control.specs.Command.{goodCommand, verdictOf, refused, fieldsIn, readOf, fixedBytes, bytesFor, verdictFor}
 use Rattle.control.specs.declared.command.GlobalCommand.{GlobalCommand}
 use Rattle.control.specs.declared.command.CommandReading.{CommandReading}
@@ -33,7 +33,7 @@ module _ (s : List ℕ) where
     long : 2 ≤ length s
     unfolding verdictOf
     long =
-        let two : length s ≡ 2 = eqb-true _ _ (not-false _ (fine-test (not (eqb (length s) 2)) 20 (pick (not (goodCommand (getD s 0 0))) (fault 21) fine) good)) in
+        let two : length s ≡ 2 = eqb-true _ _ (not-false _ (passed 20 (not (eqb (length s) 2)) (pick (not (goodCommand (getD s 0 0))) (fault 21) fine) good .0)) in
         omega arith
 
     taken : verdictFor (fieldsIn s) (partOf s 2 (length s - 2)) ≡ fine

@@ -9,7 +9,8 @@ use lib.Seq.{drop-append-seam}
 use lib.Dec.{eqb, ltb, leb}
 use borrow.Author.Tests.{le-ltb, ltb-false, ne-eqb, eqb-false, leb-true, not-false}
 use Rattle.octets.specs.Choice.{by-pick, and-left, and-right}
-use Rattle.octets.specs.Front.{Verdict, fine, fault}
+use Rattle.octets.specs.Front.{Verdict, fine}
+use Rattle.octets.specs.Fixed.{fault-fine}
 use Rattle.diagnosis.specs.Block.{extent, goodCode, sizedOf, channelOf, foundBy, foundAt}
 use Rattle.diagnosis.specs.Walk.{fieldsOf}
 use Rattle.diagnosis.specs.Writing.{sizedBytes, sizedVerdict, deviceBytes, moduleBytes, fits, channelBytes, channelVerdict}
@@ -20,10 +21,6 @@ use Rattle.diagnosis.specs.declared.block.Kind.the-variants as kind
 use Rattle.diagnosis.specs.declared.block.Found.the-variants.{Is}
 use Rattle.diagnosis.specs.declared.walk.Channel.{Channel}
 
--- no fault is fine
-pub fault-fine : (k : ℕ) → fault k ≡ fine → ⊥
-fault-fine k e = let z : _≡_ {A = ℕ} 0 1 = cc in omega arith
-
 -- ---- which fields may be written
 
 pub record Sizes (s : List ℕ) : Type 0 where
@@ -33,8 +30,8 @@ pub record Sizes (s : List ℕ) : Type 0 where
 pub sizes : (s : List ℕ) → sizedVerdict s ≡ fine → Sizes s
 unfolding sizedVerdict
 sizes s =
-    by-pick (λ v. v ≡ fine → Sizes s) (ltb (length s + 1) 2) (λ _ q. absurd (fault-fine 23 q))
-    (λ a. by-pick (λ v. v ≡ fine → Sizes s) (ltb 63 (length s + 1)) (λ _ q. absurd (fault-fine 23 q))
+    by-pick (λ v. v ≡ fine → Sizes s) (ltb (length s + 1) 2) (λ _ q. absurd (fault-fine q))
+    (λ a. by-pick (λ v. v ≡ fine → Sizes s) (ltb 63 (length s + 1)) (λ _ q. absurd (fault-fine q))
     (λ b _. record { low = omega (arith, ltb-false (length s + 1) 2 a); high = omega (arith, ltb-false 63 (length s + 1) b) }))
 
 pub record Fields (c : Channel) : Type 0 where
@@ -51,11 +48,11 @@ unfolding channelVerdict
 fields c =
     let second : Bool = leb (c .channel) 63 in
     let third : Bool = leb (c .error) 31 in
-    by-pick P (ltb 63 (c .«module»)) (λ _ q. absurd (fault-fine 21 q))
-    (λ a. by-pick P (not (fits (c .direction) 3 (c .channel) 63)) (λ _ q. absurd (fault-fine 21 q))
-    (λ b. by-pick P (eqb (c .direction) 0) (λ _ q. absurd (fault-fine 25 q))
-    (λ d. by-pick P (not (fits (c .kind) 7 (c .error) 31)) (λ _ q. absurd (fault-fine 21 q))
-    (λ e. by-pick P (not (goodCode (c .kind) (c .error))) (λ _ q. absurd (fault-fine 25 q))
+    by-pick P (ltb 63 (c .«module»)) (λ _ q. absurd (fault-fine q))
+    (λ a. by-pick P (not (fits (c .direction) 3 (c .channel) 63)) (λ _ q. absurd (fault-fine q))
+    (λ b. by-pick P (eqb (c .direction) 0) (λ _ q. absurd (fault-fine q))
+    (λ d. by-pick P (not (fits (c .kind) 7 (c .error) 31)) (λ _ q. absurd (fault-fine q))
+    (λ e. by-pick P (not (goodCode (c .kind) (c .error))) (λ _ q. absurd (fault-fine q))
     (λ g _. record {
       head = ltb-false 63 (c .«module») a;
       direction = leb-true (c .direction) 3 (and-left (leb (c .direction) 3) second (not-false _ b));

@@ -9,7 +9,6 @@ use native.Mathlib.Nat.{add-comm}
 use lib.ListN.{length, getD, take, drop, length-drop, take-append-drop}
 use lib.Seq.{drop-cons, drop-drop, take-add, length-take-le}
 use borrow.Author.Tests.{le-leb}
-use Rattle.octets.specs.Choice.{_and_}
 use Rattle.octets.specs.Bytes.{Bytes}
 use Rattle.octets.specs.Elements.{elements, part-elements, rest-elements}
 use Rattle.octets.specs.Part.{partOf}

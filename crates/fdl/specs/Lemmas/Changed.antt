@@ -10,7 +10,7 @@ use lib.ListN.{length, getD, take, drop, set, length-set, length-drop}
 use lib.Seq.{getD-set-same, getD-set-other, drop-set-add, take-set-lt, take-set-le, getD-take, getD-drop, length-take-le}
 use lib.Dec.{eqb, leb}
 use borrow.Author.Tests.{eqb-true, eqb-false, not-true}
-use Rattle.octets.specs.Choice.{_and_, and-left, never}
+use Rattle.octets.specs.Choice.{and-left, never}
 use Rattle.octets.specs.Bytes.{Bytes}
 use Rattle.fdl.specs.Code.{isReserved}
 use Rattle.fdl.specs.Telegram.{sumOf, checksumOf}

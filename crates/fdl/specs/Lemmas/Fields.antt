@@ -9,6 +9,7 @@ use lib.Dec.{eqb, leb}
 use borrow.Author.Tests.{leb-true, eqb-true, not-true}
 use Rattle.octets.specs.Choice.{pick, _and_, and-left, and-right}
 use Rattle.octets.specs.Front.{fine, fault}
+use Rattle.octets.specs.Fixed.{fault-fine}
 use Rattle.fdl.specs.Code.{isReserved}
 use Rattle.fdl.specs.Telegram.{sapLength}
 use Rattle.fdl.specs.Writing.{startBytes, sapBytes, coreOf, telegramOf, goodSap, pduLength, goodLength, goodHeader, verdictBy}
@@ -43,13 +44,10 @@ sound classes h e =
       ssap = and-right (goodSap (h .dsap)) (goodSap (h .ssap)) e4;
     }
 
--- a fault is not fine, and a verdict by one test
-pub fault-fine : (k : ℕ) → fault k ≡ fine → ⊥
-fault-fine k e = let z : _≡_ {A = ℕ} 0 1 = cc in omega arith
-
+-- a verdict by one test
 pub fine-true : (b : Bool) (k : ℕ) → pick b fine (fault k) ≡ fine → b ≡ true
 fine-true true k e = refl
-fine-true false k e = absurd (fault-fine k e)
+fine-true false k e = absurd (fault-fine e)
 
 -- fields that may be written
 pub record Writable (classes : ℕ → Class) (f : Format) (h : Header) (user : List ℕ) : Type 0 where

@@ -1,13 +1,13 @@
 -- `control::address::write_address_change` meets its contract. The tests are the verdict, and 4 and the rest's length are all bytes.
 use mathlib.Core.Path.{_≡_}
 use mathlib.Core.List.{List}
-use Prim.Native.Nat.{ℕ, _+_}
+use Prim.Native.Nat.{ℕ, _+_, _≤_}
 use native.Mathlib.Omega.{arith}
 use lib.ListN.{length, length-append}
 use denote.Ref.{now}
 use borrow.Author.Needs.{needs}
 use borrow.Author.Tests.{lt-ltb, le-ltb, eq-eqb, ne-eqb}
-use Rattle.octets.specs.Front.{fine, refused, too-small, stored}
+use Rattle.octets.specs.Front.{fine, refused, too-small, stored, both-stored}
 use Rattle.control.specs.Address.{verdictOf, fixedBytes, bytesFor, verdictFor}
 use Rattle.control.proofs.address.write_address_change.Statement.{statement}
 use Rattle.control.proofs.address.write_address_change.Tie as tie
@@ -48,8 +48,8 @@ returns-3 c =
 put-requires : tie.Need-put-requires
 put-requires c κs = search needs
 
-put-rest-requires : tie.Need-put-rest-requires
-put-rest-requires c κs = search needs
+store-behind-requires : tie.Need-store-behind-requires
+store-behind-requires c κs = search needs
 
 same-length : tie.Need-same-length
 same-length c = search needs
@@ -60,7 +60,9 @@ returns-4 c =
     let p = r .before .before .before .before in
     let e = p .before .before in
     let b = e .before .before .before .before .before .before in
-    rw (passed (e .before)) (stored (omega (arith, sized b)) (r .put-rest .ensures (fixedBytes (b .args .fields)) (now (b .args .out)) (p .put .ensures)))
+    let s = r .store-behind .ensures in
+    let room : length (bytesAt b) ≤ length (now (b .args .out)) = omega (arith, sized b) in
+    rw (passed (e .before)) (stored room (both-stored (p .put .ensures) (now (b .args .rest)) (s .0) (s .1) room))
 
 pub write-address-change-spec : {M : Type 1} → statement M
 write-address-change-spec =
@@ -71,6 +73,6 @@ write-address-change-spec =
     returns-2
     returns-3
     put-requires
-    put-rest-requires
+    store-behind-requires
     same-length
     returns-4)

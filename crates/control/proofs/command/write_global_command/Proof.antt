@@ -2,13 +2,13 @@
 use mathlib.Core.Path.{_≡_, sym, ap, _∙_}
 use mathlib.Core.Bool.{not}
 use mathlib.Core.List.{List}
-use Prim.Native.Nat.{ℕ, _+_}
+use Prim.Native.Nat.{ℕ, _+_, _≤_}
 use native.Mathlib.Omega.{arith}
 use lib.ListN.{length, length-append}
 use denote.Ref.{now}
 use borrow.Author.Needs.{needs}
 use borrow.Author.Tests.{eq-eqb, ne-eqb}
-use Rattle.octets.specs.Front.{fine, refused, too-small, stored}
+use Rattle.octets.specs.Front.{fine, refused, too-small, stored, both-stored}
 use Rattle.control.specs.Command.{verdictOf, fixedBytes, bytesFor, verdictFor}
 use Rattle.control.proofs.command.write_global_command.Statement.{statement}
 use Rattle.control.proofs.command.write_global_command.Tie as tie
@@ -52,8 +52,8 @@ returns-3 c =
 put-requires : tie.Need-put-requires
 put-requires c κs = search needs
 
-put-rest-requires : tie.Need-put-rest-requires
-put-rest-requires c κs = search needs
+store-behind-requires : tie.Need-store-behind-requires
+store-behind-requires c κs = search needs
 
 same-length : tie.Need-same-length
 same-length c = search needs
@@ -64,7 +64,9 @@ returns-4 c =
     let p = r .before .before .before .before in
     let e = p .before .before in
     let b = e .before .before .before .before .before .before in
-    rw (passed (e .before)) (stored (omega (arith, sized b)) (r .put-rest .ensures (fixedBytes (b .args .fields)) (now (b .args .out)) (p .put .ensures)))
+    let s = r .store-behind .ensures in
+    let room : length (bytesAt b) ≤ length (now (b .args .out)) = omega (arith, sized b) in
+    rw (passed (e .before)) (stored room (both-stored (p .put .ensures) (now (b .args .rest)) (s .0) (s .1) room))
 
 pub write-global-command-spec : {M : Type 1} → statement M
 write-global-command-spec =
@@ -76,6 +78,6 @@ write-global-command-spec =
     returns-2
     returns-3
     put-requires
-    put-rest-requires
+    store-behind-requires
     same-length
     returns-4)
