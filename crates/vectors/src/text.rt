@@ -1,4 +1,5 @@
-// Words, numbers and bytes on standard output.
+// Words, numbers and bytes on standard output. Each is written in one piece: a call for every digit
+// would take most of the time.
 use libc::STDOUT_FILENO;
 
 pub(crate) fn text(words: &[u8]) {
@@ -11,8 +12,11 @@ pub(crate) fn decimal(number: usize) {
 
 // A space and the number.
 pub(crate) fn field(number: usize) {
-    text(b" ");
-    decimal(number);
+    let mut digits = [0u8; 20];
+    let k = io::decimal(number as u64, &mut digits);
+    let mut words = [b' '; 21];
+    let n = octets::store_behind(1, &digits[..k], &mut words);
+    text(octets::part(&words, 0, n));
 }
 
 pub(crate) fn byte_field(byte: u8) {
@@ -31,16 +35,33 @@ pub(crate) fn word_field(word: u16) {
     field(word as usize);
 }
 
-fn hex_field(byte: u8) {
-    text(b" ");
-    io::print_hex(STDOUT_FILENO, byte as u64, 2);
+fn hex_digit(value: u8) -> u8 {
+    match value {
+        0..=9 => b'0' + value,
+        _ => b'a' - 10 + value % 16,
+    }
 }
 
-// Each byte as two hex digits.
+// Puts a space and the byte's hex digits behind the n bytes in front of words, and answers how many
+// stand there then. Where there is no room, those in front are written out first.
+fn put_hex(n: usize, byte: u8, words: &mut [u8]) -> usize {
+    let digits = [b' ', hex_digit(byte / 16), hex_digit(byte % 16)];
+    let count = octets::store_behind(n, &digits, words);
+    if count != 0 {
+        return count;
+    }
+    text(octets::part(words, 0, n));
+    octets::store(&digits, words)
+}
+
+// Each byte as a space and two hex digits.
 pub(crate) fn hex_fields(bytes: &[u8]) {
+    let mut words = [0u8; 768];
+    let mut n = 0;
     let mut i = 0;
     while i < bytes.len() {
-        hex_field(bytes[i]);
+        n = put_hex(n, bytes[i], &mut words);
         i += 1;
     }
+    text(octets::part(&words, 0, n));
 }
