@@ -1,11 +1,11 @@
 /*
- * Rabtunex: PROFIBUS DP telegrams, read and written.
+ * Rabtunex: PROFIBUS DP telegrams, read and written; diagnosis and configuration data, read.
  *
  * Every function takes all inputs and returns. It answers 0, or the refusal number of its
  * input's first fault (RABTUNEX_REFUSED_..), and then has stored nothing. Nothing is kept
  * between calls and no memory is taken: every buffer is lent by the caller.
  *
- * What the caller owes, since nothing here can test it: each pointer leads to as many bytes as
+ * What the caller owes, since nothing here can test it: each pointer leads to as many elements as
  * its length says (any pointer where the length is 0, but not a null one), and no two buffers of
  * one call overlap.
  */
@@ -30,7 +30,15 @@ extern "C" {
 #define RABTUNEX_REFUSED_FUNCTION_CODE 8 /* the function code is reserved */
 #define RABTUNEX_REFUSED_EXTENSION 9     /* a SAP is missing or above 63 */
 #define RABTUNEX_REFUSED_ROOM 11         /* the lent output is too small */
-#define RABTUNEX_REFUSED_FIELD 12        /* a field that was given is out of range */
+#define RABTUNEX_REFUSED_FIELD 12        /* a field or position that was given is out of range */
+#define RABTUNEX_REFUSED_DATA_LENGTH 20  /* the length of the service data is wrong */
+#define RABTUNEX_REFUSED_BITS 21         /* a fixed bit or a ranged byte is wrong */
+#define RABTUNEX_REFUSED_EXT_DIAG 22     /* the Ext_Diag bit and the blocks disagree */
+#define RABTUNEX_REFUSED_BLOCK_HEADER 23 /* a block's header is reserved, or its length below 2 */
+#define RABTUNEX_REFUSED_PAST_END 24     /* a block or module runs past the data */
+#define RABTUNEX_REFUSED_CHANNEL_CODE 25 /* a code of a channel block is reserved */
+#define RABTUNEX_REFUSED_VENDOR_COUNT 26 /* a module's vendor count is 15 */
+#define RABTUNEX_REFUSED_PROCESS_DATA 27 /* over 244 input or 244 output bytes */
 
 /* The longest telegram: an output of so many bytes is never too small. */
 #define RABTUNEX_TELEGRAM_MAX 255
@@ -68,6 +76,85 @@ uint8_t rabtunex_read_telegram(const uint8_t *bytes, size_t bytes_len,
  * give RABTUNEX_REFUSED_FIELD. */
 uint8_t rabtunex_write_telegram(const uint8_t fields[RABTUNEX_FIELDS], const uint8_t *user,
                                 size_t user_len, uint8_t *out, size_t out_len, size_t *stored);
+
+/* The fields of a diagnosis: an array of RABTUNEX_DIAGNOSIS_FIELDS numbers, at these places. */
+#define RABTUNEX_DIAGNOSIS_FIELDS 6
+#define RABTUNEX_STATUS1 0 /* station status 1 */
+#define RABTUNEX_STATUS2 1 /* station status 2 */
+#define RABTUNEX_STATUS3 2 /* station status 3 */
+#define RABTUNEX_MASTER 3  /* the master's address, or RABTUNEX_NO_MASTER */
+#define RABTUNEX_IDENT 4   /* ident number */
+#define RABTUNEX_BLOCKS 5  /* how many blocks there are */
+
+#define RABTUNEX_NO_MASTER 255
+
+/* Reads one diagnosis, which is all of the bytes, into its fields. Every block is looked at too:
+ * no step over the blocks of a diagnosis that was read is refused. */
+uint8_t rabtunex_read_diagnosis(const uint8_t *bytes, size_t bytes_len,
+                                size_t fields[RABTUNEX_DIAGNOSIS_FIELDS]);
+
+/* A block of a diagnosis: an array of RABTUNEX_BLOCK_FIELDS numbers. The first is its kind; a
+ * place that the kind does not name is 0. */
+#define RABTUNEX_BLOCK_FIELDS 6
+#define RABTUNEX_BLOCK_KIND 0 /* RABTUNEX_BLOCKS_END .. RABTUNEX_CHANNEL_BLOCK */
+
+#define RABTUNEX_BLOCKS_END 0 /* no block: the blocks end at the position */
+#define RABTUNEX_DEVICE_BLOCK 1
+#define RABTUNEX_MODULE_BLOCK 2
+#define RABTUNEX_CHANNEL_BLOCK 3
+
+/* Device and module: where the bytes after the block's header begin in the diagnosis, and how many
+ * there are. */
+#define RABTUNEX_BLOCK_START 1
+#define RABTUNEX_BLOCK_LEN 2
+
+/* Module alone: those bytes are a map, a bit for each module. */
+#define RABTUNEX_MAP_SET 3    /* how many modules report */
+#define RABTUNEX_MAP_LOWEST 4 /* the lowest that reports, or RABTUNEX_NO_MODULE */
+
+#define RABTUNEX_NO_MODULE 65535
+
+/* Channel. */
+#define RABTUNEX_CHANNEL_MODULE 1    /* the module, 0 to 63 */
+#define RABTUNEX_CHANNEL_DIRECTION 2 /* 1 input, 2 output, 3 both */
+#define RABTUNEX_CHANNEL_NUMBER 3    /* the channel of the module, 0 to 63 */
+#define RABTUNEX_CHANNEL_TYPE 4      /* 1 to 6: bit, two bits, four bits, byte, word, two words */
+#define RABTUNEX_CHANNEL_ERROR 5     /* 1 to 9, or the maker's own from 16 to 31 */
+
+/* The position of the first block. */
+#define RABTUNEX_FIRST_BLOCK 6
+
+/* Reads the block at *position, and moves *position behind it. At the end of the bytes it stores
+ * RABTUNEX_BLOCKS_END and leaves *position. Only the block is looked at, and not the fields of the
+ * diagnosis; a position before RABTUNEX_FIRST_BLOCK or past the end gives RABTUNEX_REFUSED_FIELD.
+ * All blocks of a diagnosis:
+ *
+ *     size_t position = RABTUNEX_FIRST_BLOCK;
+ *     size_t block[RABTUNEX_BLOCK_FIELDS];
+ *     while (rabtunex_next_block(bytes, bytes_len, &position, block) == 0 &&
+ *            block[RABTUNEX_BLOCK_KIND] != RABTUNEX_BLOCKS_END) {
+ *         show(block);
+ *     }
+ */
+uint8_t rabtunex_next_block(const uint8_t *bytes, size_t bytes_len, size_t *position,
+                            size_t block[RABTUNEX_BLOCK_FIELDS]);
+
+/* The most modules of a configuration: lists of so many numbers are never too small. */
+#define RABTUNEX_MODULES_MAX 244
+
+/* The totals of a configuration: an array of RABTUNEX_TOTALS numbers, at these places. */
+#define RABTUNEX_TOTALS 3
+#define RABTUNEX_TOTAL_MODULES 0 /* how many modules there are */
+#define RABTUNEX_TOTAL_INPUTS 1  /* how many input bytes they have */
+#define RABTUNEX_TOTAL_OUTPUTS 2 /* how many output bytes they have */
+
+/* Reads one configuration, which is all of the bytes, into its totals, and stores where the bytes
+ * of each module begin, or would begin where it has none: among the inputs at the front of inputs,
+ * and among the outputs at the front of outputs. A list with fewer places than there are modules
+ * gives RABTUNEX_REFUSED_ROOM. */
+uint8_t rabtunex_configuration_offsets(const uint8_t *bytes, size_t bytes_len, uint16_t *inputs,
+                                       size_t inputs_len, uint16_t *outputs, size_t outputs_len,
+                                       size_t totals[RABTUNEX_TOTALS]);
 
 #ifdef __cplusplus
 }

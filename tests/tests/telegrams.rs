@@ -12,8 +12,9 @@ use rabtunex_tests::reference::fields::{self, Fields};
 use rabtunex_tests::reference::refusal;
 use rabtunex_tests::reference::telegram::{read, write, ED, SC, SD1, SD2, SD3, SD4};
 use rabtunex_tests::samples::{self, Saps, FUNCTION_CODES, LONGEST_PDU};
-use tally::Outcome::{self, Accepted, Refused};
+use std::fmt;
 use tally::Tally;
+use Outcome::{Accepted, Refused};
 
 const STARTS: [u8; 5] = [SC, SD4, SD1, SD2, SD3];
 const FRAME_STARTS: [u8; 3] = [SD1, SD2, SD3];
@@ -45,6 +46,25 @@ const MARGIN: usize = 20;
 
 /// The longest input of the seeded readings.
 const LONGEST_INPUT: usize = 600;
+
+/// How a reading or a writing ended.
+#[derive(Clone, Copy, Debug, PartialEq, Eq, PartialOrd, Ord)]
+enum Outcome {
+    /// With a telegram of this kind.
+    Accepted(u8),
+    /// With this refusal number.
+    Refused(u8),
+}
+
+impl fmt::Display for Outcome {
+    fn fmt(&self, f: &mut fmt::Formatter<'_>) -> fmt::Result {
+        const KINDS: [&str; 5] = ["SC", "token", "SD1", "SD2", "SD3"];
+        match self {
+            Outcome::Accepted(kind) => write!(f, "accepted {}", KINDS[usize::from(*kind)]),
+            Outcome::Refused(number) => write!(f, "refused {number}"),
+        }
+    }
+}
 
 /// All that a writing may have changed.
 #[derive(Debug, PartialEq, Eq)]
@@ -251,7 +271,7 @@ fn seeded_chance_is_read_alike() {
 }
 
 /// Reads what the sources make, and answers how much that was.
-fn check_sources(seed: u64, sources: &[Source], expect: fn(&Tally, &[Outcome])) -> usize {
+fn check_sources(seed: u64, sources: &[Source], expect: fn(&Tally<Outcome>, &[Outcome])) -> usize {
     let random = &mut Random::new(seed);
     let mut total = 0;
     for source in sources {

@@ -1,6 +1,5 @@
--- Telegrams through the C interface. A function answers 0, or the number of its refusal, and a refusal stores nothing.
--- A telegram's fields are eight bytes: kind, DA, SA, FC, DSAP, SSAP, start and length of the user data. 255 is no access
--- point.
+-- Telegrams through the C interface. A telegram's fields are eight bytes: kind, DA, SA, FC, DSAP, SSAP, start and length of
+-- the user data. 255 is no access point.
 use Prim.Native.Nat.{ℕ}
 use mathlib.Core.List.{List, [], _∷_}
 use lib.ListN.{length, getD}
@@ -15,8 +14,8 @@ use Rattle.fdl.specs.declared.telegram.Format.the-variants.{Sd1, Sd2, Sd3}
 use Rattle.fdl.specs.declared.telegram.Header.{Header}
 use Rattle.fdl.specs.declared.telegram.Sap.{Sap}
 use Rattle.fdl.specs.declared.telegram.Sap.the-variants.{Absent, Present}
-use Rattle.capi.specs.declared.Kind.{Kind}
-use Rattle.capi.specs.declared.Kind.the-variants as kind
+use Rattle.capi.specs.declared.telegram.Kind.{Kind}
+use Rattle.capi.specs.declared.telegram.Kind.the-variants as kind
 use Rattle.fdl.specs.declared.reading.Reading.{Reading}
 use Rattle.fdl.specs.declared.reading.Reading.the-variants.{Confirmation, Token, Telegram, Refused}
 

@@ -2,34 +2,15 @@
 //! longer reaches what it should.
 
 use std::collections::BTreeMap;
-use std::fmt;
-
-/// How a reading or a writing ended.
-#[derive(Clone, Copy, Debug, PartialEq, Eq, PartialOrd, Ord)]
-pub enum Outcome {
-    /// With a telegram of this kind.
-    Accepted(u8),
-    /// With this refusal number.
-    Refused(u8),
-}
-
-impl fmt::Display for Outcome {
-    fn fmt(&self, f: &mut fmt::Formatter<'_>) -> fmt::Result {
-        const KINDS: [&str; 5] = ["SC", "token", "SD1", "SD2", "SD3"];
-        match self {
-            Outcome::Accepted(kind) => write!(f, "accepted {}", KINDS[usize::from(*kind)]),
-            Outcome::Refused(number) => write!(f, "refused {number}"),
-        }
-    }
-}
+use std::fmt::{Debug, Display};
 
 /// How often each outcome came.
-pub struct Tally {
+pub struct Tally<Outcome> {
     title: &'static str,
     counts: BTreeMap<Outcome, usize>,
 }
 
-impl Tally {
+impl<Outcome: Debug + Display + Ord> Tally<Outcome> {
     /// Nothing counted yet.
     pub fn new(title: &'static str) -> Self {
         Tally {

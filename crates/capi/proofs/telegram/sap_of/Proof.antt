@@ -1,7 +1,7 @@
--- `capi::sap_of` meets its contract. The definition has the same test.
+-- `capi::telegram::sap_of` meets its contract. The definition has the same test.
 use borrow.Author.Tests.{eq-eqb, ne-eqb}
-use Rattle.capi.proofs.sap_of.Statement.{statement}
-use Rattle.capi.proofs.sap_of.Tie as tie
+use Rattle.capi.proofs.telegram.sap_of.Statement.{statement}
+use Rattle.capi.proofs.telegram.sap_of.Tie as tie
 
 returns : tie.Need-returns
 returns c = simp (eq-eqb _ _ (c .if1 .taken))

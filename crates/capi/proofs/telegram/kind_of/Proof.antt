@@ -1,9 +1,9 @@
--- `capi::kind_of` meets its contract. The definition goes by the same numbers.
+-- `capi::telegram::kind_of` meets its contract. The definition goes by the same numbers.
 use mathlib.Core.Path.{sym, ap}
 use borrow.Author.Tests.{ne-eqb}
 use Rattle.capi.specs.Telegram.{kindOf}
-use Rattle.capi.proofs.kind_of.Statement.{statement}
-use Rattle.capi.proofs.kind_of.Tie as tie
+use Rattle.capi.proofs.telegram.kind_of.Statement.{statement}
+use Rattle.capi.proofs.telegram.kind_of.Tie as tie
 
 returns : tie.Need-returns
 returns c = sym (ap kindOf (c .match .keys1))

@@ -1,10 +1,10 @@
--- `capi::put_fields` meets its contract, by what `sap_number` ensures.
+-- `capi::telegram::put_fields` meets its contract, by what `sap_number` ensures.
 use mathlib.Core.Path.{ap₂}
 use mathlib.Core.List.{_∷_, []}
 use Prim.Native.Nat.{ℕ}
 use borrow.Author.Needs.{needs}
-use Rattle.capi.proofs.put_fields.Statement.{statement}
-use Rattle.capi.proofs.put_fields.Tie as tie
+use Rattle.capi.proofs.telegram.put_fields.Statement.{statement}
+use Rattle.capi.proofs.telegram.put_fields.Tie as tie
 
 sap-number-requires : tie.Need-sap-number-requires
 sap-number-requires c κs = search needs

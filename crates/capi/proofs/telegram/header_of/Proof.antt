@@ -1,11 +1,11 @@
--- `capi::header_of` meets its contract, by what `sap_of` ensures.
+-- `capi::telegram::header_of` meets its contract, by what `sap_of` ensures.
 use mathlib.Core.Path.{ap₂}
 use lib.ListN.{getD}
 use Rattle.fdl.specs.declared.telegram.Sap.{Sap}
 use Rattle.fdl.specs.declared.telegram.Header.{Header}
 use borrow.Author.Needs.{needs}
-use Rattle.capi.proofs.header_of.Statement.{statement}
-use Rattle.capi.proofs.header_of.Tie as tie
+use Rattle.capi.proofs.telegram.header_of.Statement.{statement}
+use Rattle.capi.proofs.telegram.header_of.Tie as tie
 
 element-copy-out-t4 : tie.Need-element-copy-out-t4
 element-copy-out-t4 c = search needs

@@ -1,4 +1,4 @@
--- `capi::rabtunex_read_telegram` meets its contract: each kind of reading stores its fields, and none is larger than a byte.
+-- `capi::telegram::rabtunex_read_telegram` meets its contract: each kind of reading stores its fields, and none is larger than a byte.
 use mathlib.Core.Path.{_≡_, refl, sym, ap, _∙_}
 use mathlib.Core.List.{List, _∷_, []}
 use Prim.Native.Nat.{ℕ, _+_, _≤_}
@@ -9,8 +9,8 @@ use Rattle.fdl.specs.Laws.{data-inside}
 use Rattle.fdl.specs.declared.reading.Reading.{Reading}
 use Rattle.capi.specs.Telegram.{refusalOf, fieldsAfter, sapNumber}
 use borrow.Author.Needs.{needs}
-use Rattle.capi.proofs.rabtunex_read_telegram.Statement.{statement}
-use Rattle.capi.proofs.rabtunex_read_telegram.Tie as tie
+use Rattle.capi.proofs.telegram.rabtunex_read_telegram.Statement.{statement}
+use Rattle.capi.proofs.telegram.rabtunex_read_telegram.Tie as tie
 
 -- the answer and the fields, by what is read
 answered : (s before : List ℕ) {after : List ℕ} (r : Reading) → readOf s ≡ r → after ≡ fieldsAfter r before

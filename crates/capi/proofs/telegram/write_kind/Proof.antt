@@ -1,4 +1,4 @@
--- `capi::write_kind` meets its contract, by what the writer of the kind ensures.
+-- `capi::telegram::write_kind` meets its contract, by what the writer of the kind ensures.
 use mathlib.Core.Path.{_≡_, sym, subst}
 use mathlib.Core.List.{List, []}
 use Prim.Native.Nat.{ℕ}
@@ -8,10 +8,10 @@ use Rattle.octets.specs.Front.{answerBy, heldBy, refused}
 use Rattle.octets.specs.declared.Written.{Written}
 use Rattle.fdl.specs.Writing.{tokenBytes, confirmationBytes}
 use Rattle.capi.specs.Telegram.{verdictAt, bytesAt}
-use Rattle.capi.specs.declared.Kind.{Kind}
+use Rattle.capi.specs.declared.telegram.Kind.{Kind}
 use borrow.Author.Needs.{needs}
-use Rattle.capi.proofs.write_kind.Statement.{statement}
-use Rattle.capi.proofs.write_kind.Tie as tie
+use Rattle.capi.proofs.telegram.write_kind.Statement.{statement}
+use Rattle.capi.proofs.telegram.write_kind.Tie as tie
 
 -- what is answered and held, by the kind
 abbrev Outcome : (fields user out : List ℕ) → Written → (after : List ℕ) → Kind → Type 0

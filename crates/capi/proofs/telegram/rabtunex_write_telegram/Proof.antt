@@ -1,11 +1,11 @@
--- `capi::rabtunex_write_telegram` meets its contract, by what `write_kind` ensures.
+-- `capi::telegram::rabtunex_write_telegram` meets its contract, by what `write_kind` ensures.
 use mathlib.Core.Path.{_≡_, sym, ap, _∙_}
 use lib.ListN.{length}
 use Rattle.octets.specs.declared.Written.{Written}
 use Rattle.capi.specs.Telegram.{answerOf, heldOf, statusOf, countAfter}
 use borrow.Author.Needs.{needs}
-use Rattle.capi.proofs.rabtunex_write_telegram.Statement.{statement}
-use Rattle.capi.proofs.rabtunex_write_telegram.Tie as tie
+use Rattle.capi.proofs.telegram.rabtunex_write_telegram.Statement.{statement}
+use Rattle.capi.proofs.telegram.rabtunex_write_telegram.Tie as tie
 
 -- what was written is what the first field's kind says
 wrote : (c : tie.After-write-kind) →
