@@ -2,14 +2,15 @@
 //! that were never a telegram.
 //!
 //! The samples are put together here byte by byte and not with the reference
-//! writer, so that each is a check of the other. Those of the services' data are
-//! in modules of their own.
+//! writer, so that each is a check of the other. Those of the services' data and
+//! of fields to write are in modules of their own.
 
 pub mod configuration;
 pub mod control;
 pub mod diagnosis;
 pub mod parameters;
 pub mod services;
+pub mod writers;
 
 use crate::random::Random;
 use crate::reference::telegram::{Format, Telegram, ED, SC, SD1, SD2, SD3, SD4};

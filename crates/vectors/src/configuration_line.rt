@@ -1,7 +1,10 @@
 // The answer to a configuration: its totals, the offsets of its modules, and each module with the
-// bytes that writing makes of it again.
+// bytes that writing makes of it again. The answers to a module's fields and to a configuration's bytes.
+use crate::answer::malformed;
 use crate::service::again;
+use crate::service::behind;
 use crate::service::refused;
+use crate::service::stored;
 use crate::service::walk_refused;
 use crate::text::byte_field;
 use crate::text::field;
@@ -127,4 +130,95 @@ pub(crate) fn configuration_line(bytes: &[u8], out: &mut [u8]) {
             text(b"\n");
         }
     }
+}
+
+pub(crate) fn configuration_fields(modules: &[u8], out: &mut [u8]) {
+    let written = configuration::write(modules, out);
+    stored(written, out);
+}
+
+enum GivenSide {
+    Is(configuration::Side),
+    Malformed,
+}
+
+fn given_side(present: u8, units: u8, words: u8, consistent: u8) -> GivenSide {
+    if 1 < present {
+        return GivenSide::Malformed;
+    }
+    if 1 < words {
+        return GivenSide::Malformed;
+    }
+    if 1 < consistent {
+        return GivenSide::Malformed;
+    }
+    if present == 0 {
+        return GivenSide::Is(configuration::Side::Absent);
+    }
+    GivenSide::Is(configuration::Side::Present {
+        units,
+        words: words == 1,
+        consistent: consistent == 1,
+    })
+}
+
+fn written_module(
+    identifier: configuration::Identifier,
+    input: GivenSide,
+    output: GivenSide,
+    vendor: &[u8],
+    out: &mut [u8],
+) {
+    let GivenSide::Is(input) = input else {
+        malformed();
+        return;
+    };
+    let GivenSide::Is(output) = output else {
+        malformed();
+        return;
+    };
+    let module = configuration::Module {
+        identifier,
+        input,
+        output,
+    };
+    let written = configuration::write_module(module, vendor, out);
+    stored(written, out);
+}
+
+// The identifier format, 0 general and 1 special; of each side, input first, whether it is there, its
+// units, words and consistency; and the vendor bytes, which the general format has not.
+pub(crate) fn module_fields(fields: &[u8], out: &mut [u8]) {
+    if fields.len() < 9 {
+        malformed();
+        return;
+    }
+    let input = given_side(fields[1], fields[2], fields[3], fields[4]);
+    let output = given_side(fields[5], fields[6], fields[7], fields[8]);
+    let vendor = behind(fields, 9);
+    if fields[0] == 1 {
+        written_module(
+            configuration::Identifier::Special,
+            input,
+            output,
+            vendor,
+            out,
+        );
+        return;
+    }
+    if fields[0] != 0 {
+        malformed();
+        return;
+    }
+    if vendor.len() != 0 {
+        malformed();
+        return;
+    }
+    written_module(
+        configuration::Identifier::General,
+        input,
+        output,
+        vendor,
+        out,
+    );
 }

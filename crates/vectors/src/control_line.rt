@@ -1,6 +1,9 @@
-// The answers to an address change and to a global command.
+// The answers to an address change and to a global command, and to the fields of each.
+use crate::answer::malformed;
 use crate::service::again;
+use crate::service::behind;
 use crate::service::refused;
+use crate::service::stored;
 use crate::text::byte_field;
 use crate::text::field;
 use crate::text::flag_field;
@@ -52,4 +55,37 @@ pub(crate) fn command_line(bytes: &[u8], out: &mut [u8]) {
             text(b"\n");
         }
     }
+}
+
+// Address, ident, whether locked, and the rest.
+pub(crate) fn address_fields(fields: &[u8], out: &mut [u8]) {
+    if fields.len() < 4 {
+        malformed();
+        return;
+    }
+    if 1 < fields[3] {
+        malformed();
+        return;
+    }
+    let change = control::AddressChange {
+        address: fields[0],
+        ident: octets::join16(fields[1], fields[2]),
+        locked: fields[3] == 1,
+    };
+    let written = control::write_address_change(change, behind(fields, 4), out);
+    stored(written, out);
+}
+
+// Command, groups, and the rest.
+pub(crate) fn command_fields(fields: &[u8], out: &mut [u8]) {
+    if fields.len() < 2 {
+        malformed();
+        return;
+    }
+    let command = control::GlobalCommand {
+        command: fields[0],
+        groups: fields[1],
+    };
+    let written = control::write_global_command(command, behind(fields, 2), out);
+    stored(written, out);
 }

@@ -1,19 +1,15 @@
-// The answer to a diagnosis: its header, the number of its blocks, and each block.
+// The answer to a diagnosis: its header, the number of its blocks, and each block. The answers to the
+// fields of a diagnosis and of each block.
+use crate::answer::malformed;
 use crate::service::again;
+use crate::service::behind;
 use crate::service::refused;
+use crate::service::stored;
 use crate::service::walk_refused;
 use crate::text::byte_field;
 use crate::text::field;
 use crate::text::text;
 use crate::text::word_field;
-
-// What stands behind the first n bytes.
-fn behind(bytes: &[u8], n: usize) -> &[u8] {
-    if bytes.len() < n {
-        return &bytes[..0];
-    }
-    &bytes[n..]
-}
 
 fn lowest(lowest: diagnosis::Lowest) {
     match lowest {
@@ -104,4 +100,48 @@ pub(crate) fn diagnosis_line(bytes: &[u8], out: &mut [u8]) {
             text(b"\n");
         }
     }
+}
+
+// Status 1 to 3, master, ident, and the bytes of the blocks.
+pub(crate) fn diagnosis_fields(fields: &[u8], out: &mut [u8]) {
+    if fields.len() < 6 {
+        malformed();
+        return;
+    }
+    let header = diagnosis::Header {
+        status1: fields[0],
+        status2: fields[1],
+        status3: fields[2],
+        master: fields[3],
+        ident: octets::join16(fields[4], fields[5]),
+    };
+    let written = diagnosis::write(header, behind(fields, 6), out);
+    stored(written, out);
+}
+
+pub(crate) fn device_fields(bytes: &[u8], out: &mut [u8]) {
+    let written = diagnosis::write_device(bytes, out);
+    stored(written, out);
+}
+
+pub(crate) fn map_fields(map: &[u8], out: &mut [u8]) {
+    let written = diagnosis::write_module(map, out);
+    stored(written, out);
+}
+
+// Module, direction, channel, type and error.
+pub(crate) fn channel_fields(fields: &[u8], out: &mut [u8]) {
+    if fields.len() != 5 {
+        malformed();
+        return;
+    }
+    let channel = diagnosis::Channel {
+        module: fields[0],
+        direction: fields[1],
+        channel: fields[2],
+        kind: fields[3],
+        error: fields[4],
+    };
+    let written = diagnosis::write_channel(channel, out);
+    stored(written, out);
 }

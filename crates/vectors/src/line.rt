@@ -1,31 +1,13 @@
 // The text, byte by byte. A line that starts with # is a comment. A line of = and a letter says what
-// the lines after it are; until then they are telegrams. Every other line is the bytes of one such
-// thing as two hex digits with single spaces between them; an empty line has no bytes.
+// the lines after it are to be read as; until then they are telegrams. A line of > and a letter says
+// that they are fields for a writer. Every other line is the bytes of one such thing as two hex digits
+// with single spaces between them; an empty line has no bytes.
 use crate::answer;
-use crate::configuration_line::configuration_line;
-use crate::control_line::address_line;
-use crate::control_line::command_line;
-use crate::diagnosis_line::diagnosis_line;
-use crate::parameters_line::parameters_line;
-use octets::Mode;
-
-// What a line's bytes are, by the letter that names it.
-enum Subject {
-    // t
-    Telegram,
-    // d
-    Diagnosis,
-    // p
-    Parameters,
-    // q
-    Dpv1Parameters,
-    // c
-    Configuration,
-    // a
-    AddressChange,
-    // g
-    GlobalCommand,
-}
+use crate::subject::Named;
+use crate::subject::Subject;
+use crate::subject::answer_to;
+use crate::subject::fields_of;
+use crate::subject::subject_of;
 
 // What a line has come to.
 enum Place {
@@ -33,6 +15,8 @@ enum Place {
     Comment,
     // After =.
     Naming,
+    // After >.
+    NamingFields,
     // After the letter that follows it.
     Named,
     // After the space that follows a byte.
@@ -123,6 +107,9 @@ fn after_start(byte: u8) -> Place {
     if byte == b'=' {
         return Place::Naming;
     }
+    if byte == b'>' {
+        return Place::NamingFields;
+    }
     first_digit(byte)
 }
 
@@ -134,39 +121,19 @@ fn after_byte(byte: u8) -> Place {
     }
 }
 
-fn named(byte: u8, subject: Subject) -> Line {
-    let subject = match byte {
-        b't' => Subject::Telegram,
-        b'd' => Subject::Diagnosis,
-        b'p' => Subject::Parameters,
-        b'q' => Subject::Dpv1Parameters,
-        b'c' => Subject::Configuration,
-        b'a' => Subject::AddressChange,
-        b'g' => Subject::GlobalCommand,
-        _ => {
-            return Line {
-                place: Place::Malformed,
-                subject,
-                count: 0,
-            };
-        }
-    };
-    Line {
-        place: Place::Named,
-        subject,
-        count: 0,
-    }
-}
-
-fn answer_to(subject: Subject, bytes: &[u8], out: &mut [u8]) {
-    match subject {
-        Subject::Telegram => answer::telegram(bytes),
-        Subject::Diagnosis => diagnosis_line(bytes, out),
-        Subject::Parameters => parameters_line(bytes, Mode::Dpv0, out),
-        Subject::Dpv1Parameters => parameters_line(bytes, Mode::Dpv1, out),
-        Subject::Configuration => configuration_line(bytes, out),
-        Subject::AddressChange => address_line(bytes, out),
-        Subject::GlobalCommand => command_line(bytes, out),
+// After the letter that names what follows. A letter that names nothing leaves the subject as it was.
+fn after_letter(named: Named, subject: Subject) -> Line {
+    match named {
+        Named::Is(subject) => Line {
+            place: Place::Named,
+            subject,
+            count: 0,
+        },
+        Named::Unknown => Line {
+            place: Place::Malformed,
+            subject,
+            count: 0,
+        },
     }
 }
 
@@ -193,7 +160,8 @@ fn after(line: Line, byte: u8, bytes: &mut [u8], out: &mut [u8]) -> Line {
     let next = match place {
         Place::Start => after_start(byte),
         Place::Comment => Place::Comment,
-        Place::Naming => return named(byte, subject),
+        Place::Naming => return after_letter(subject_of(byte), subject),
+        Place::NamingFields => return after_letter(fields_of(byte), subject),
         Place::Named => Place::Malformed,
         Place::Space => first_digit(byte),
         Place::Digit(high) => {

@@ -1,5 +1,6 @@
-// Telegrams and the data of services as hex text on standard input, and the answer to each as a line
-// on standard output: an independent program answers the same text, and the two are compared.
+// Telegrams, the data of services and fields for their writers as hex text on standard input, and the
+// answer to each as a line on standard output: an independent program answers the same text, and the
+// two are compared.
 mod answer;
 mod configuration_line;
 mod control_line;
@@ -7,6 +8,7 @@ mod diagnosis_line;
 mod line;
 mod parameters_line;
 mod service;
+mod subject;
 mod text;
 
 use libc::STDIN_FILENO;

@@ -1,7 +1,10 @@
 // The answer to parameters: their fields, the watchdog time in milliseconds, and where the user bytes
-// stand.
+// stand. The answer to the fields of parameters.
+use crate::answer::malformed;
 use crate::service::again;
+use crate::service::behind;
 use crate::service::refused;
+use crate::service::stored;
 use crate::text::byte_field;
 use crate::text::field;
 use crate::text::text;
@@ -53,4 +56,47 @@ pub(crate) fn parameters_line(bytes: &[u8], mode: Mode, out: &mut [u8]) {
             text(b"\n");
         }
     }
+}
+
+// Flags, both factors, response time, ident, groups, in DPV1 the three status bytes, and the user
+// bytes.
+fn written_parameters(
+    fields: &[u8],
+    extension: parameters::Extension,
+    start: usize,
+    out: &mut [u8],
+) {
+    if fields.len() < 7 {
+        malformed();
+        return;
+    }
+    let response = parameters::BitTimes(fields[3]);
+    let given = parameters::Parameters {
+        flags: fields[0],
+        factor1: fields[1],
+        factor2: fields[2],
+        response,
+        ident: octets::join16(fields[4], fields[5]),
+        groups: fields[6],
+        extension,
+    };
+    let written = parameters::write(given, behind(fields, start), out);
+    stored(written, out);
+}
+
+pub(crate) fn dpv0_fields(fields: &[u8], out: &mut [u8]) {
+    written_parameters(fields, parameters::Extension::Dpv0, 7, out);
+}
+
+pub(crate) fn dpv1_fields(fields: &[u8], out: &mut [u8]) {
+    if fields.len() < 10 {
+        malformed();
+        return;
+    }
+    let extension = parameters::Extension::Dpv1 {
+        status1: fields[7],
+        status2: fields[8],
+        status3: fields[9],
+    };
+    written_parameters(fields, extension, 10, out);
 }

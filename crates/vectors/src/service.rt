@@ -26,3 +26,24 @@ pub(crate) fn again(written: Written, out: &[u8]) {
         Written::Refused(number) => byte_field(number),
     }
 }
+
+// What a writer answered that was given fields: the refusal number; or 0, and after = the bytes that it
+// stored.
+pub(crate) fn stored(written: Written, out: &[u8]) {
+    match written {
+        Written::Stored(n) => {
+            text(b"0 =");
+            hex_fields(octets::part(out, 0, n));
+        }
+        Written::Refused(number) => decimal(number as usize),
+    }
+    text(b"\n");
+}
+
+// What stands behind the first n bytes.
+pub(crate) fn behind(bytes: &[u8], n: usize) -> &[u8] {
+    if bytes.len() < n {
+        return &bytes[..0];
+    }
+    &bytes[n..]
+}

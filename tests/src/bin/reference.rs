@@ -4,7 +4,7 @@
 #![forbid(unsafe_code)]
 
 use rabtunex_tests::reference::text;
-use rabtunex_tests::samples::{self, services, Group};
+use rabtunex_tests::samples::{self, services, writers, Group};
 use std::io::{self, Read, Write};
 use std::process::ExitCode;
 
@@ -63,6 +63,11 @@ fn make_vectors() -> String {
         vectors += &format!("={letter}\n# {service}: {}\n", group.name);
         vectors += &lines(&group);
     }
+    for (writer, group) in writers::groups() {
+        let (letter, writer) = (writer.letter(), writer.name());
+        vectors += &format!(">{letter}\n# {writer}: {}\n", group.name);
+        vectors += &lines(&group);
+    }
     vectors
 }
 
@@ -86,6 +91,11 @@ mod tests {
         for (service, group) in services::groups() {
             for bytes in group.inputs {
                 expected += &(service.answer(&bytes) + "\n");
+            }
+        }
+        for (writer, group) in writers::groups() {
+            for bytes in group.inputs {
+                expected += &(writer.answer(&bytes) + "\n");
             }
         }
         assert_eq!(answers, expected);

@@ -8,6 +8,7 @@ pub mod parameters;
 pub mod service_text;
 pub mod telegram;
 pub mod text;
+pub mod writer_text;
 
 #[cfg(test)]
 mod expect;

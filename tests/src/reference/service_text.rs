@@ -133,10 +133,14 @@ fn written(write: impl FnOnce(&mut [u8]) -> Result<usize, u8>) -> Result<Vec<u8>
 
 /// What writing again came to.
 fn again(outcome: Result<Vec<u8>, u8>) -> String {
-    let bytes = match outcome {
-        Ok(bytes) => bytes,
-        Err(refusal) => return format!(" = {refusal}"),
-    };
+    match outcome {
+        Ok(bytes) => stored_text(&bytes),
+        Err(refusal) => format!(" = {refusal}"),
+    }
+}
+
+/// The bytes that a writer stored.
+pub(super) fn stored_text(bytes: &[u8]) -> String {
     let mut text = String::from(" =");
     for byte in bytes {
         write!(text, " {byte:02x}").expect("a string takes any text");

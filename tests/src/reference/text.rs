@@ -4,13 +4,15 @@
 //! In a vectors text every line ends with a newline. A line that starts with
 //! `#` is a comment. One that starts with `=` says by one letter what the lines
 //! after it are: `t` for telegrams, which those before any such line are too,
-//! and a service's own letter for its data. Any other line is the bytes of one
-//! telegram or of one service's data, two hex digits for each byte with single
-//! spaces between them, and an empty line is no bytes.
+//! and a service's own letter for its data. One that starts with `>` says by a
+//! writer's letter that they are fields for that writer. Any other line is the
+//! bytes of one telegram, of one service's data or of one writing, two hex digits
+//! for each byte with single spaces between them, and an empty line is no bytes.
 
 use super::fields;
 use super::service_text::Service;
 use super::telegram::{read, Format, Telegram};
+use super::writer_text::Writer;
 use std::fmt::Write;
 
 /// What stands after `=` in the line that announces telegrams.
@@ -58,24 +60,50 @@ pub fn numbers(bytes: &[u8]) -> String {
     }
 }
 
+/// What the lines of a vectors text are.
+#[derive(Clone, Copy)]
+enum Kind {
+    Telegrams,
+    DataOf(Service),
+    FieldsFor(Writer),
+}
+
+impl Kind {
+    /// What a line that starts with `=` or `>` announces, or nothing when it is
+    /// malformed.
+    fn announced_by(line: &str) -> Option<Self> {
+        match line.split_at_checked(1)? {
+            ("=", TELEGRAMS) => Some(Kind::Telegrams),
+            ("=", letter) => Service::of_letter(letter).map(Kind::DataOf),
+            (">", letter) => Writer::of_letter(letter).map(Kind::FieldsFor),
+            _ => None,
+        }
+    }
+
+    fn answer(self, bytes: &[u8]) -> String {
+        match self {
+            Kind::Telegrams => numbers(bytes),
+            Kind::DataOf(service) => service.answer(bytes),
+            Kind::FieldsFor(writer) => writer.answer(bytes),
+        }
+    }
+}
+
 /// The answers to a vectors text, or the number of its first malformed line.
 pub fn answers(vectors: &str) -> Result<String, usize> {
     let mut answers = String::new();
-    let mut service: Option<Service> = None;
+    let mut kind = Kind::Telegrams;
     for (number, line) in (1_usize..).zip(vectors.split_inclusive('\n')) {
         let line = line.strip_suffix('\n').ok_or(number)?;
         if line.starts_with('#') {
             continue;
         }
-        if let Some(letter) = line.strip_prefix('=') {
-            service = match letter {
-                TELEGRAMS => None,
-                _ => Some(Service::of_letter(letter).ok_or(number)?),
-            };
+        if line.starts_with(['=', '>']) {
+            kind = Kind::announced_by(line).ok_or(number)?;
             continue;
         }
         let bytes = from_hex(line).ok_or(number)?;
-        answers += &service.map_or_else(|| numbers(&bytes), |service| service.answer(&bytes));
+        answers += &kind.answer(&bytes);
         answers.push('\n');
     }
     Ok(answers)
@@ -190,7 +218,25 @@ mod tests {
             let answer = service.answer(&[0x02, 0x0C]) + "\n";
             assert_eq!(answers(&vectors), Ok(answer));
         }
-        assert_eq!(answers("=d\n=t\n").as_deref(), Ok(""));
+        for writer in Writer::ALL {
+            let vectors = format!(">{}\n09 0C\n", writer.letter());
+            let answer = writer.answer(&[0x09, 0x0C]) + "\n";
+            assert_eq!(answers(&vectors), Ok(answer));
+        }
+        assert_eq!(answers("=d\n=t\n>d\n").as_deref(), Ok(""));
+    }
+
+    #[test]
+    fn writers_and_services_are_told_apart() {
+        let vectors = "=g\n3E FF\n>g\n# group\n3E FF\n02 3E FF\n\n>e\n02 FF\n=g\n3E FF\n=t\nE5\n";
+        let expected = [
+            "0 62 255 2 0 = 3e ff\n",
+            "malformed\n0 = 3e ff\nmalformed\n",
+            "0 = 02 ff\n",
+            "0 62 255 2 0 = 3e ff\n",
+            "0 0 0 0 0 255 255 0 0\n",
+        ];
+        assert_eq!(answers(vectors), Ok(expected.concat()));
     }
 
     #[test]
@@ -207,6 +253,18 @@ mod tests {
         }
         assert_eq!(answers("E5\nE5"), Err(2), "the last newline is missing");
         assert_eq!(answers("E5\n=d"), Err(2), "the last newline is missing");
+    }
+
+    #[test]
+    fn malformed_announcements_of_writers_name_their_line() {
+        for malformed in [
+            ">", ">t", ">D", ">dd", ">d ", ">d\r", " >d", "> d", ">>d", "=>d", ">=d", ">d 00",
+            "00 >d", ">\u{e9}", "=e",
+        ] {
+            let vectors = format!(">d\n{malformed}\n");
+            assert_eq!(answers(&vectors), Err(2), "{malformed:?}");
+        }
+        assert_eq!(answers("E5\n>d"), Err(2), "the last newline is missing");
     }
 
     #[test]

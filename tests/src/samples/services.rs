@@ -8,7 +8,7 @@ use crate::reference::parameters::Mode;
 use crate::reference::service_text::Service;
 
 /// The most bytes of a line of the vectors.
-const LONGEST_LINE: usize = 512;
+pub(super) const LONGEST_LINE: usize = 512;
 
 /// Makes one sample.
 type Make = dyn Fn(&mut Random) -> Vec<u8>;
