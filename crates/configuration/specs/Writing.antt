@@ -71,10 +71,12 @@ specialByte i o vendor = 128 * presence o + 64 * presence i + length vendor
 unfoldable pub specialBytes : (input output : Side) (vendor : List ℕ) → List ℕ
 specialBytes i o vendor = specialByte i o vendor ∷ (sideBytes o ++ (sideBytes i ++ vendor))
 
+-- the vendor count fits its four bits, and is not 15
 unfoldable pub specialVerdict : (input output : Side) (vendor : List ℕ) → Verdict
 specialVerdict i o vendor =
-    pick (ltb 14 (length vendor)) (fault 26)
-    (pick (not (goodSide 64 o)) (fault 21) (pick (not (goodSide 64 i)) (fault 21) fine))
+    pick (ltb 15 (length vendor)) (fault 21)
+    (pick (eqb (length vendor) 15) (fault 26)
+    (pick (not (goodSide 64 o)) (fault 21) (pick (not (goodSide 64 i)) (fault 21) fine)))
 
 -- ---- a module
 

@@ -190,7 +190,10 @@ fn write_special(input: Side, output: Side, vendor: &[u8], out: &mut [u8]) -> Wr
     ensures answer { λ r. ⌜ r ≡ answerBy (specialVerdict input output (now (vendor .entry))) (specialBytes input output (now (vendor .entry))) (length (now (out .entry))) ⌝ }
     ensures bytes { λ _. ⌜ now (out .exit) ≡ heldBy (specialVerdict input output (now (vendor .entry))) (specialBytes input output (now (vendor .entry))) (now (out .entry)) ⌝ }
 {
-    if 14 < vendor.len() {
+    if 15 < vendor.len() {
+        return Written::Refused(21);
+    }
+    if vendor.len() == 15 {
         return Written::Refused(26);
     }
     if !good_side(64, output) {

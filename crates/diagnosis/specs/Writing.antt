@@ -36,8 +36,9 @@ verdictOf h blocks = verdictBy (judge h blocks)
 abbrev pub sizedBytes : (kind : ℕ) → List ℕ → List ℕ
 sizedBytes kind s = (kind + (length s + 1)) ∷ s
 
+-- the length is not below 2, and fits its six bits
 unfoldable pub sizedVerdict : List ℕ → Verdict
-sizedVerdict s = pick (ltb (length s + 1) 2) (fault 23) (pick (ltb 63 (length s + 1)) (fault 23) fine)
+sizedVerdict s = pick (ltb (length s + 1) 2) (fault 23) (pick (ltb 63 (length s + 1)) (fault 21) fine)
 
 -- a device block
 abbrev pub deviceBytes : List ℕ → List ℕ

@@ -67,7 +67,7 @@ fn write_sized(kind: u8, bytes: &[u8], out: &mut [u8]) -> Written
         return Written::Refused(23);
     }
     if 63 < len {
-        return Written::Refused(23);
+        return Written::Refused(21);
     }
     if out.len() < len {
         return Written::Refused(11);

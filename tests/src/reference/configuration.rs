@@ -14,7 +14,7 @@ const SPECIAL_OUTPUT: u8 = 0x80;
 
 /// The low nibble of an identifier: units less one, or how many vendor bytes.
 const NIBBLE: u8 = 0x0F;
-/// The vendor counts from here on are not used.
+/// The highest vendor count that fits the nibble, which is not used.
 const RESERVED_VENDOR_COUNT: usize = 15;
 /// Bits 5-0 of a length byte: units less one.
 const LOW_SIX: u8 = 0x3F;
@@ -171,7 +171,7 @@ fn split_module(identifier: u8, after: &[u8]) -> Result<(Module<'_>, &[u8]), u8>
 
 fn split_special(identifier: u8, after: &[u8]) -> Result<(Module<'_>, &[u8]), u8> {
     let vendor_count = usize::from(identifier & NIBBLE);
-    if vendor_count >= RESERVED_VENDOR_COUNT {
+    if vendor_count == RESERVED_VENDOR_COUNT {
         return Err(refusal::VENDOR_COUNT);
     }
     let has_input = identifier & SPECIAL_INPUT != 0;
@@ -222,7 +222,10 @@ fn write_special(
     out: &mut [u8],
 ) -> Result<usize, u8> {
     // The count stands in the first byte, before both lengths.
-    if vendor.len() >= RESERVED_VENDOR_COUNT {
+    if vendor.len() > RESERVED_VENDOR_COUNT {
+        return Err(refusal::BITS);
+    }
+    if vendor.len() == RESERVED_VENDOR_COUNT {
         return Err(refusal::VENDOR_COUNT);
     }
     let length = |side: Side| side.to_byte(LOW_SIX);
@@ -542,9 +545,9 @@ mod tests {
             (special(too_many, None, &[]), 21),
             (special(one, too_many, &[0; 14]), 21),
             (special(one, one, &[0; 15]), 26),
-            (special(None, None, &[0; 16]), 26),
+            (special(None, None, &[0; 16]), 21),
             // The count stands before the lengths.
-            (special(too_many, none, &[0; 271]), 26),
+            (special(too_many, none, &[0; 271]), 21),
         ] {
             expect::refused(number, |out| write_module(&module, out));
         }

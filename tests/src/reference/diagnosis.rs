@@ -247,8 +247,12 @@ pub fn write_module(map: &[u8], out: &mut [u8]) -> Result<usize, u8> {
 
 fn write_counted(kind: u8, data: &[u8], out: &mut [u8]) -> Result<usize, u8> {
     let length = 1 + data.len();
-    if !COUNTED_LENGTHS.contains(&length) {
+    if length < *COUNTED_LENGTHS.start() {
         return Err(refusal::BLOCK_HEADER);
+    }
+    // More does not fit the bits that count it.
+    if length > *COUNTED_LENGTHS.end() {
+        return Err(refusal::BITS);
     }
     store([&[kind | length as u8], data], out)
 }
@@ -537,8 +541,9 @@ mod tests {
         for length in 0..=70 {
             let data = random.bytes(length);
             if !(1..=62).contains(&length) {
-                expect::refused(23, |out| write_device(&data, out));
-                expect::refused(23, |out| write_module(&data, out));
+                let number = if length == 0 { 23 } else { 21 };
+                expect::refused(number, |out| write_device(&data, out));
+                expect::refused(number, |out| write_module(&data, out));
                 continue;
             }
             let header = 1 + length as u8;

@@ -18,7 +18,7 @@ const MOST_BLOCK_DATA: usize = 62;
 pub fn refusals(writer: Writer) -> &'static [u8] {
     match writer {
         Writer::Diagnosis => &[11, 20, 21, 22, 23, 24, 25],
-        Writer::DeviceBlock | Writer::ModuleBlock => &[11, 23],
+        Writer::DeviceBlock | Writer::ModuleBlock => &[11, 21, 23],
         Writer::ChannelBlock => &[11, 21, 25],
         Writer::Module => &[11, 21, 26],
         Writer::Configuration => &[11, 20, 24, 26, 27],

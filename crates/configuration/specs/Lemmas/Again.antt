@@ -7,7 +7,7 @@ use native.Mathlib.Omega.{arith}
 use lib.ListN.{length, getD, take, drop, length-drop}
 use lib.Seq.{drop-drop, take-add, length-take-le}
 use lib.Dec.{eqb, ltb}
-use borrow.Author.Tests.{eq-eqb, eqb-true, eqb-false, ltb-false, le-leb, le-ltb}
+use borrow.Author.Tests.{eq-eqb, ne-eqb, eqb-true, eqb-false, ltb-false, le-leb, le-ltb}
 use Rattle.octets.specs.Choice.{pick, by-pick}
 use Rattle.octets.specs.Bytes.{Bytes}
 use Rattle.octets.specs.Elements.{part-elements}
@@ -187,10 +187,11 @@ module _ (r : List ℕ) (some : 1 ≤ length r) (bytes : Bytes r) where
     special-here : FrontAgain r (specialOf x (getD r 1 0) (getD r (1 + p) 0)) (1 + p + q) n
     unfolding specialOf specialVerdict specialBytes
     special-here =
-        let short : length vendor ≤ 14 = omega (arith, vendor-long) in
+        let fits : length vendor ≤ 15 = omega (arith, vendor-long) in
+        let short : length vendor ≡ 15 → ⊥ = λ e. omega (arith, vendor-long) in
         let all : 1 + (p + (q + n)) ≡ 1 + p + q + n = omega arith in
         record {
-          taken = rw vendor-is (simp (le-ltb _ _ short, output .good, input .good));
+          taken = rw vendor-is (simp (le-ltb _ _ fits, ne-eqb _ _ short, output .good, input .good));
           same =
               rw vendor-is
               (ap₂ (λ (z : ℕ) (l : List ℕ). z ∷ l) head (ap₂ (λ (a b : List ℕ). a ++ (b ++ vendor)) (output .bytes) (input .bytes) ∙ rest-is)

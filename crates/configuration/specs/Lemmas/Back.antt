@@ -6,7 +6,7 @@ use Prim.Native.Nat.{ℕ, _+_, _*_, _/_, _%_, _≤_}
 use native.Mathlib.Omega.{arith}
 use lib.ListN.{length, getD, length-append}
 use lib.Dec.{eqb, ltb}
-use borrow.Author.Tests.{le-ltb, ne-eqb, eqb-true, ltb-false, not-false}
+use borrow.Author.Tests.{le-ltb, ne-eqb, eqb-true, eqb-false, ltb-false, not-false}
 use Rattle.octets.specs.Choice.{pick, _and_, and-left, and-right, never}
 use Rattle.octets.specs.Front.{fine, fault}
 use Rattle.octets.specs.Fixed.{passed}
@@ -164,7 +164,10 @@ module-read General i o vendor rest e =
     ∙ ap (one (record { identifier = General; input = i; output = o }) 1) (no-vendor i o vendor e)
 module-read Special i o vendor rest e =
     let last = pick (not (goodSide 64 i)) (fault 21) fine in
-    let a = passed 26 (ltb 14 (length vendor)) (pick (not (goodSide 64 o)) (fault 21) last) e in
-    let b = passed 21 (not (goodSide 64 o)) last (a .1) in
-    let c = passed 21 (not (goodSide 64 i)) fine (b .1) in
-    special-read i o vendor rest (not-false (goodSide 64 o) (b .0)) (not-false (goodSide 64 i) (c .0)) (ltb-false 14 (length vendor) (a .0))
+    let sides = pick (not (goodSide 64 o)) (fault 21) last in
+    let a = passed 21 (ltb 15 (length vendor)) (pick (eqb (length vendor) 15) (fault 26) sides) e in
+    let b = passed 26 (eqb (length vendor) 15) sides (a .1) in
+    let c = passed 21 (not (goodSide 64 o)) last (b .1) in
+    let d = passed 21 (not (goodSide 64 i)) fine (c .1) in
+    let few : length vendor ≤ 14 = omega (arith, ltb-false 15 (length vendor) (a .0), eqb-false (length vendor) 15 (b .0)) in
+    special-read i o vendor rest (not-false (goodSide 64 o) (c .0)) (not-false (goodSide 64 i) (d .0)) few

@@ -32,7 +32,7 @@ returns-2 : tie.Need-returns-2
 unfolding sizedVerdict
 returns-2 c =
     let b = c .before .before .before .before in
-    simp (le-ltb _ _ (c .before .if1 .left), lt-ltb _ _ (c .if2 .taken)) (refused 23 (bytesAt b) (now (b .args .out)))
+    simp (le-ltb _ _ (c .before .if1 .left), lt-ltb _ _ (c .if2 .taken)) (refused 21 (bytesAt b) (now (b .args .out)))
 
 returns-3 : tie.Need-returns-3
 returns-3 c =
