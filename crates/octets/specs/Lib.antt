@@ -5,3 +5,4 @@ pub mod Number
 pub mod Front
 pub mod Part
 pub mod Fixed
+pub mod Float
