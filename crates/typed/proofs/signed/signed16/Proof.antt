@@ -1,0 +1,24 @@
+-- `typed::signed::signed16` meets its contract: the upper half of the patterns goes by the complement.
+use borrow.Author.Needs.{needs}
+use mir.Syntax.{w16}
+use Rattle.typed.specs.Lemmas.Complement.{twice}
+use Rattle.typed.proofs.signed.signed16.Statement.{statement}
+use Rattle.typed.proofs.signed.signed16.Tie as tie
+
+cast-result : tie.Need-cast-result
+cast-result c = search needs
+
+sub-result : tie.Need-sub-result
+sub-result c = search needs
+
+cast-result-2 : tie.Need-cast-result-2
+cast-result-2 c = search needs
+
+returns : tie.Need-returns
+returns c = search needs
+
+returns-2 : tie.Need-returns-2
+returns-2 c = rw (twice w16 (c .before .fits .pattern))
+
+pub signed16-spec : {M : Type 1} → statement M
+signed16-spec = tie.close (tie.spec cast-result sub-result cast-result-2 returns returns-2)
