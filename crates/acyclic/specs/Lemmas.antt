@@ -1,0 +1,4 @@
+pub mod Forms
+pub mod Again
+pub mod Calls
+pub mod Answers

@@ -1,0 +1,193 @@
+// Answers: what a slave gives back.
+ghost use mathlib.Core.Path.{_≡_};
+ghost use lib.ListN.{length};
+ghost use Rattle.octets.specs.Front.{answerBy, heldBy};
+ghost use Rattle.acyclic.specs.Forms.{verdictIn};
+ghost use Rattle.acyclic.specs.Answers.{answerAt, failedOf, negativeBy, fourOf, readAnswerOf, verdictFor, bytesFor};
+use crate::forms::Check;
+use crate::forms::Front;
+use crate::forms::alone;
+use crate::forms::counted_as;
+use crate::forms::negative;
+use crate::forms::ranged;
+use crate::forms::write_bare;
+use crate::forms::write_counted;
+use crate::forms::write_four;
+use crate::numbers::Function;
+use crate::numbers::allowed_in_answers;
+use crate::numbers::negative_number;
+use octets::Refusal;
+use octets::Written;
+
+// A read and a data transport have data, which are lent bytes; their count is the length byte. A
+// negative answer says why a function was not performed.
+pub enum Answer {
+    Read {
+        slot: u8,
+        index: u8,
+    },
+    Write {
+        slot: u8,
+        index: u8,
+        length: u8,
+    },
+    AlarmAck {
+        slot: u8,
+        alarm: u8,
+        specifier: u8,
+    },
+    Idle,
+    Transport {
+        slot: u8,
+        index: u8,
+    },
+    Negative {
+        function: Function,
+        decode: u8,
+        code1: u8,
+        code2: u8,
+    },
+}
+
+// What bytes are. The data are the len bytes from start, which `octets::part` hands back: none, at the
+// end of the bytes, where the answer has none.
+pub enum AnswerReading {
+    Answer {
+        answer: Answer,
+        start: usize,
+        len: usize,
+    },
+    Refused(Refusal),
+}
+
+// The answer with count bytes from start, if the check on it let it stand.
+fn answer_at(start: usize, count: usize, check: Check, answer: Answer) -> AnswerReading
+    ensures { λ r. ⌜ r ≡ answerAt start count (verdictIn check) answer ⌝ }
+{
+    match check {
+        Check::Refused(refusal) => AnswerReading::Refused(refusal),
+        Check::Fine => AnswerReading::Answer {
+            answer,
+            start,
+            len: count,
+        },
+    }
+}
+
+// The negative answer for a function, with count bytes behind it.
+fn failed(function: Function, decode: u8, code1: u8, code2: u8, count: usize) -> AnswerReading
+    ensures { λ r. ⌜ r ≡ failedOf function decode code1 code2 count ⌝ }
+{
+    let answer = Answer::Negative {
+        function,
+        decode,
+        code1,
+        code2,
+    };
+    answer_at(4, count, negative(decode, code1, count), answer)
+}
+
+// The negative answer that a number has, with count bytes behind it. A number that none has is
+// reserved.
+fn negative_by(number: u8, decode: u8, code1: u8, code2: u8, count: usize) -> AnswerReading
+    ensures { λ r. ⌜ r ≡ negativeBy number decode code1 code2 count ⌝ }
+{
+    match number {
+        0xDE => failed(Function::Read, decode, code1, code2, count),
+        0xDF => failed(Function::Write, decode, code1, code2, count),
+        0xDC => failed(Function::AlarmAck, decode, code1, code2, count),
+        0xD1 => failed(Function::Transport, decode, code1, code2, count),
+        _ => AnswerReading::Refused(Refusal { number: 28 }),
+    }
+}
+
+// The answer of four fixed bytes, as its number has them read, with count bytes behind them.
+fn four(number: u8, slot: u8, index: u8, last: u8, count: usize) -> AnswerReading
+    ensures { λ r. ⌜ r ≡ fourOf number slot index last count ⌝ }
+{
+    match number {
+        0x5E => {
+            let answer = Answer::Read { slot, index };
+            answer_at(4, count, counted_as(last, 0, count), answer)
+        }
+        0x5F => {
+            let answer = Answer::Write {
+                slot,
+                index,
+                length: last,
+            };
+            answer_at(4, count, ranged(last, count), answer)
+        }
+        0x5C => {
+            let answer = Answer::AlarmAck {
+                slot,
+                alarm: index,
+                specifier: last,
+            };
+            answer_at(4, count, alone(count), answer)
+        }
+        0x51 => {
+            let answer = Answer::Transport { slot, index };
+            answer_at(4, count, counted_as(last, 0, count), answer)
+        }
+        _ => negative_by(number, slot, index, last, count),
+    }
+}
+
+// Reads an answer: all of the lent slice is one.
+pub fn read_answer(bytes: &[u8]) -> AnswerReading
+    ensures { λ r. ⌜ r ≡ readAnswerOf (now (bytes .entry)) ⌝ }
+{
+    if bytes.len() == 0 {
+        return AnswerReading::Refused(Refusal { number: 20 });
+    }
+    let number = bytes[0];
+    if !allowed_in_answers(number) {
+        return AnswerReading::Refused(Refusal { number: 28 });
+    }
+    if number == 0x48 {
+        let count = bytes.len() - 1;
+        return answer_at(1, count, alone(count), Answer::Idle);
+    }
+    if bytes.len() < 4 {
+        return AnswerReading::Refused(Refusal { number: 20 });
+    }
+    four(number, bytes[1], bytes[2], bytes[3], bytes.len() - 4)
+}
+
+// Writes an answer from its fields and its data.
+pub fn write_answer(answer: Answer, part: &[u8], out: &mut [u8]) -> Written
+    ensures answer { λ r. ⌜ r ≡ answerBy (verdictFor answer (now (part .entry))) (bytesFor answer (now (part .entry))) (length (now (out .entry))) ⌝ }
+    ensures bytes { λ _. ⌜ now (out .exit) ≡ heldBy (verdictFor answer (now (part .entry))) (bytesFor answer (now (part .entry))) (now (out .entry)) ⌝ }
+{
+    match answer {
+        Answer::Read { slot, index } => write_counted(0x5E, slot, index, 0, part, out),
+        Answer::Write {
+            slot,
+            index,
+            length,
+        } => {
+            let front = Front(0x5F, slot, index, length);
+            write_four(ranged(length, part.len()), front, part, out)
+        }
+        Answer::AlarmAck {
+            slot,
+            alarm,
+            specifier,
+        } => {
+            let front = Front(0x5C, slot, alarm, specifier);
+            write_four(alone(part.len()), front, part, out)
+        }
+        Answer::Idle => write_bare(0x48, part, out),
+        Answer::Transport { slot, index } => write_counted(0x51, slot, index, 0, part, out),
+        Answer::Negative {
+            function,
+            decode,
+            code1,
+            code2,
+        } => {
+            let front = Front(negative_number(function), decode, code1, code2);
+            write_four(negative(decode, code1, part.len()), front, part, out)
+        }
+    }
+}

@@ -1,0 +1,53 @@
+// Function numbers, the first byte of a call or an answer: which are allowed in which way. How each is
+// read and written stands with the calls and the answers.
+ghost use mathlib.Core.Path.{_≡_};
+ghost use Rattle.acyclic.specs.Numbers.{allowedInCalls, allowedInAnswers, negativeNumber};
+
+// The functions that have a negative answer.
+pub enum Function {
+    Read,
+    Write,
+    AlarmAck,
+    Transport,
+}
+
+pub(crate) fn allowed_in_calls(number: u8) -> bool
+    ensures { λ r. ⌜ r ≡ allowedInCalls number ⌝ }
+{
+    match number {
+        0x5E => true,
+        0x5F => true,
+        0x5C => true,
+        0x48 => true,
+        0x51 => true,
+        _ => false,
+    }
+}
+
+// The same numbers, and the negative ones.
+pub(crate) fn allowed_in_answers(number: u8) -> bool
+    ensures { λ r. ⌜ r ≡ allowedInAnswers number ⌝ }
+{
+    if allowed_in_calls(number) {
+        return true;
+    }
+    match number {
+        0xDE => true,
+        0xDF => true,
+        0xDC => true,
+        0xD1 => true,
+        _ => false,
+    }
+}
+
+// The number of a function's negative answer: its own plus 80 hex.
+pub(crate) fn negative_number(function: Function) -> u8
+    ensures { λ r. ⌜ r ≡ negativeNumber function ⌝ }
+{
+    match function {
+        Function::Read => 0x80 + 0x5E,
+        Function::Write => 0x80 + 0x5F,
+        Function::AlarmAck => 0x80 + 0x5C,
+        Function::Transport => 0x80 + 0x51,
+    }
+}
