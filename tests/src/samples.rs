@@ -5,11 +5,14 @@
 //! writer, so that each is a check of the other. Those of the services' data and
 //! of fields to write are in modules of their own.
 
+pub mod acyclic;
+pub mod acyclic_fields;
 pub mod configuration;
 pub mod control;
 pub mod diagnosis;
 pub mod parameters;
 pub mod services;
+pub mod typed;
 pub mod writers;
 
 use crate::random::Random;

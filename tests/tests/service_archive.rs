@@ -4,18 +4,18 @@
 
 #![deny(unsafe_code)]
 
+mod archive;
 mod tally;
 
+use archive::Outcome::{Accepted, Refused};
+use archive::{inputs, pairs, Outcome, CASES};
 use rabtunex_tests::random::Random;
 use rabtunex_tests::reference::configuration;
 use rabtunex_tests::reference::diagnosis::{self, Block, Channel, ModuleMap};
 use rabtunex_tests::reference::service_text::Service;
 use rabtunex_tests::samples::configuration as module_samples;
 use rabtunex_tests::samples::diagnosis as block_samples;
-use rabtunex_tests::samples::services;
-use std::fmt;
 use tally::Tally;
-use Outcome::{Accepted, Refused};
 
 /// The library's functions for the data of services, `include/rabtunex.h`.
 #[allow(unsafe_code)]
@@ -82,9 +82,6 @@ mod library {
     }
 }
 
-/// How many inputs each function gets at least.
-const CASES: usize = 100_000;
-
 /// What stands in lent numbers and lists before a call: no call stores it.
 const UNTOUCHED: usize = usize::MAX;
 const UNTOUCHED_OFFSET: u16 = 0xAAAA;
@@ -100,24 +97,6 @@ const NO_MODULE: usize = 65_535;
 
 const DIAGNOSIS: Outcome = Accepted("diagnosis");
 const CONFIGURATION: Outcome = Accepted("configuration");
-
-/// How a call ended.
-#[derive(Clone, Copy, Debug, PartialEq, Eq, PartialOrd, Ord)]
-enum Outcome {
-    /// With what is named here.
-    Accepted(&'static str),
-    /// With this refusal number.
-    Refused(u8),
-}
-
-impl fmt::Display for Outcome {
-    fn fmt(&self, f: &mut fmt::Formatter<'_>) -> fmt::Result {
-        match self {
-            Accepted(name) => write!(f, "accepted {name}"),
-            Refused(number) => write!(f, "refused {number}"),
-        }
-    }
-}
 
 /// Lent numbers, with a margin on either side.
 #[derive(Clone, Copy, Debug, PartialEq, Eq)]
@@ -305,24 +284,6 @@ fn worked_rows() {
     assert_eq!(offsets, expected);
 }
 
-/// Valid data of all forms and of any shape; then as many again that were valid
-/// before the damage in one place, or never were.
-fn inputs(random: &mut Random, service: Service) -> Vec<Vec<u8>> {
-    const ANY_OF_EACH_ROUND: usize = 500;
-    let mut inputs = Vec::new();
-    while inputs.len() < CASES / 2 {
-        inputs.extend(services::all_forms(random, service));
-        inputs.extend((0..ANY_OF_EACH_ROUND).map(|_| services::any_valid(random, service)));
-    }
-    let mut sources = services::damages(service);
-    sources.extend(services::noises(service));
-    for place in 0..inputs.len() {
-        inputs.push(sources[place % sources.len()].sample(random));
-    }
-    assert!(inputs.len() >= CASES, "only {} inputs", inputs.len());
-    inputs
-}
-
 #[test]
 fn seeded_diagnoses_are_read_alike() {
     let mut tally = Tally::new("seeded diagnoses read");
@@ -386,11 +347,6 @@ fn long_bytes_are_walked_alike() {
     for position in (65_000..=70_002).chain([usize::MAX]) {
         check_step(&bytes, position);
     }
-}
-
-/// All pairs of bytes.
-fn pairs() -> impl Iterator<Item = (u8, u8)> {
-    (0..=255).flat_map(|first| (0..=255).map(move |second| (first, second)))
 }
 
 #[test]

@@ -50,6 +50,21 @@ fn global_control_is_answered_alike() {
     check_service(6, Service::GlobalControl);
 }
 
+#[test]
+fn dpv1_calls_are_answered_alike() {
+    check_service(8, Service::Dpv1Call);
+}
+
+#[test]
+fn dpv1_answers_are_answered_alike() {
+    check_service(9, Service::Dpv1Answer);
+}
+
+#[test]
+fn typed_values_are_answered_alike() {
+    check_service(10, Service::TypedValue);
+}
+
 /// Nothing of the service before, nor of its data, may be left over.
 #[test]
 fn services_and_telegrams_in_turn_are_answered_alike() {

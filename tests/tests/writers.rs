@@ -72,6 +72,21 @@ fn global_control_is_written_alike() {
 }
 
 #[test]
+fn dpv1_call_is_written_alike() {
+    check_writer(13, Writer::Dpv1Call);
+}
+
+#[test]
+fn dpv1_answer_is_written_alike() {
+    check_writer(14, Writer::Dpv1Answer);
+}
+
+#[test]
+fn typed_value_is_written_alike() {
+    check_writer(15, Writer::TypedValue);
+}
+
+#[test]
 fn bytes_that_do_not_make_fields_are_answered_alike() {
     let random = &mut Random::new(11);
     for writer in Writer::ALL {

@@ -1,6 +1,7 @@
 // Telegrams, the data of services and fields for their writers as hex text on standard input, and the
 // answer to each as a line on standard output: an independent program answers the same text, and the
 // two are compared.
+mod acyclic_line;
 mod answer;
 mod configuration_line;
 mod control_line;
@@ -10,6 +11,7 @@ mod parameters_line;
 mod service;
 mod subject;
 mod text;
+mod typed_line;
 
 use libc::STDIN_FILENO;
 

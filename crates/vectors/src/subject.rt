@@ -1,4 +1,8 @@
 // What a line's bytes are, by the letter that named it, and the answer to them.
+use crate::acyclic_line::answer_fields;
+use crate::acyclic_line::answer_line;
+use crate::acyclic_line::call_fields;
+use crate::acyclic_line::call_line;
 use crate::answer;
 use crate::answer::malformed;
 use crate::configuration_line::configuration_fields;
@@ -17,6 +21,8 @@ use crate::parameters_line::dpv0_fields;
 use crate::parameters_line::dpv1_fields;
 use crate::parameters_line::parameters_line;
 use crate::service::behind;
+use crate::typed_line::typed_fields;
+use crate::typed_line::typed_line;
 use octets::Mode;
 
 pub(crate) enum Subject {
@@ -27,6 +33,9 @@ pub(crate) enum Subject {
     Configuration,
     AddressChange,
     GlobalCommand,
+    AcyclicCall,
+    AcyclicAnswer,
+    TypedValue,
     // Behind a byte that says how much room the writer is lent, the fields that it is given.
     Fields(Writer),
 }
@@ -42,6 +51,9 @@ pub(crate) enum Writer {
     Configuration,
     AddressChange,
     GlobalCommand,
+    AcyclicCall,
+    AcyclicAnswer,
+    TypedValue,
 }
 
 pub(crate) enum Named {
@@ -59,6 +71,9 @@ pub(crate) fn subject_of(letter: u8) -> Named {
         b'c' => Named::Is(Subject::Configuration),
         b'a' => Named::Is(Subject::AddressChange),
         b'g' => Named::Is(Subject::GlobalCommand),
+        b'x' => Named::Is(Subject::AcyclicCall),
+        b'y' => Named::Is(Subject::AcyclicAnswer),
+        b'v' => Named::Is(Subject::TypedValue),
         _ => Named::Unknown,
     }
 }
@@ -76,6 +91,9 @@ pub(crate) fn fields_of(letter: u8) -> Named {
         b'c' => Writer::Configuration,
         b'a' => Writer::AddressChange,
         b'g' => Writer::GlobalCommand,
+        b'x' => Writer::AcyclicCall,
+        b'y' => Writer::AcyclicAnswer,
+        b'v' => Writer::TypedValue,
         _ => {
             return Named::Unknown;
         }
@@ -95,6 +113,9 @@ fn written(writer: Writer, fields: &[u8], out: &mut [u8]) {
         Writer::Configuration => configuration_fields(fields, out),
         Writer::AddressChange => address_fields(fields, out),
         Writer::GlobalCommand => command_fields(fields, out),
+        Writer::AcyclicCall => call_fields(fields, out),
+        Writer::AcyclicAnswer => answer_fields(fields, out),
+        Writer::TypedValue => typed_fields(fields, out),
     }
 }
 
@@ -125,6 +146,9 @@ pub(crate) fn answer_to(subject: Subject, bytes: &[u8], out: &mut [u8]) {
         Subject::Configuration => configuration_line(bytes, out),
         Subject::AddressChange => address_line(bytes, out),
         Subject::GlobalCommand => command_line(bytes, out),
+        Subject::AcyclicCall => call_line(bytes, out),
+        Subject::AcyclicAnswer => answer_line(bytes, out),
+        Subject::TypedValue => typed_line(bytes, out),
         Subject::Fields(writer) => fields_line(writer, bytes, out),
     }
 }

@@ -15,7 +15,9 @@ pub fn written(bytes: &[u8], write: impl Fn(&mut [u8]) -> Result<usize, u8>) {
         assert_eq!(front, bytes);
         assert_eq!(rest, &UNTOUCHED[bytes.len()..]);
     }
-    for room in [0, bytes.len() / 2, bytes.len() - 1] {
+    let rooms = [0, bytes.len() / 2, bytes.len().saturating_sub(1)];
+    // No bytes fit into any output.
+    for room in rooms.into_iter().filter(|room| *room < bytes.len()) {
         refused_within(room, refusal::OUTPUT, &write);
     }
 }

@@ -1,5 +1,7 @@
 //! The independent program, one module for each part of document 01.
 
+pub mod acyclic;
+mod acyclic_text;
 pub mod configuration;
 pub mod control;
 pub mod diagnosis;
@@ -8,6 +10,7 @@ pub mod parameters;
 pub mod service_text;
 pub mod telegram;
 pub mod text;
+pub mod typed;
 pub mod writer_text;
 
 #[cfg(test)]
@@ -16,8 +19,8 @@ mod expect;
 /// The longest data of a service, and the most inputs or outputs of a slave.
 const LONGEST_DATA: usize = 244;
 
-/// The refusal numbers of document 01 that telegrams and the services' data can
-/// get.
+/// The refusal numbers of document 01 that telegrams, the services' data and
+/// typed values can get.
 pub mod refusal {
     /// The bytes end early.
     pub const SHORT: u8 = 1;
@@ -39,8 +42,8 @@ pub mod refusal {
     pub const EXTENSION: u8 = 9;
     /// The lent output is too small.
     pub const OUTPUT: u8 = 11;
-    /// A field of the caller's telegram, or the position of a walk, is out of
-    /// range.
+    /// A field of the caller's telegram, the position of a walk, or what a case
+    /// of a typed value holds is out of range.
     pub const FIELD: u8 = 12;
     /// The length of a service's data is wrong.
     pub const DATA_LENGTH: u8 = 20;
@@ -58,6 +61,10 @@ pub mod refusal {
     pub const VENDOR_COUNT: u8 = 26;
     /// A configuration has more than 244 input or 244 output bytes.
     pub const PROCESS_DATA: u8 = 27;
+    /// A function number or an error code of DPV1 is reserved.
+    pub const ACYCLIC_CODE: u8 = 28;
+    /// The code of a typed value is not 1..8, or its Boolean is not 00 or FF.
+    pub const TYPED_VALUE: u8 = 29;
 }
 
 /// Stores the parts one after the other at the front of `out` and answers their

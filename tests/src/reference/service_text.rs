@@ -1,6 +1,7 @@
 //! The data of services as lines of the vectors: what reading answers, what a
 //! walk over the data meets, and what the writers make of both again.
 
+use super::acyclic_text;
 use super::configuration::{self, Identifier, Module, Side, Totals};
 use super::control::{self, GlobalControl, SetSlaveAdr};
 use super::diagnosis::{self, Block, Channel, Header};
@@ -8,7 +9,7 @@ use super::parameters::{self, Mode};
 use super::LONGEST_DATA;
 use std::fmt::Write;
 
-/// A service whose data can stand in the vectors.
+/// A service whose data can stand in the vectors, and typed values.
 #[derive(Clone, Copy, Debug, PartialEq, Eq)]
 pub enum Service {
     /// The answer to Slave_Diag.
@@ -21,17 +22,26 @@ pub enum Service {
     SetSlaveAdr,
     /// The data of Global_Control.
     GlobalControl,
+    /// The data of a DPV1 call.
+    Dpv1Call,
+    /// The data of a DPV1 answer.
+    Dpv1Answer,
+    /// A typed value.
+    TypedValue,
 }
 
 impl Service {
     /// Every service, the parameters in both modes.
-    pub const ALL: [Service; 6] = [
+    pub const ALL: [Service; 9] = [
         Service::Diagnosis,
         Service::Parameters(Mode::Dpv0),
         Service::Parameters(Mode::Dpv1),
         Service::Configuration,
         Service::SetSlaveAdr,
         Service::GlobalControl,
+        Service::Dpv1Call,
+        Service::Dpv1Answer,
+        Service::TypedValue,
     ];
 
     /// What stands after `=` in the line that announces its data.
@@ -43,6 +53,9 @@ impl Service {
             Service::Configuration => "c",
             Service::SetSlaveAdr => "a",
             Service::GlobalControl => "g",
+            Service::Dpv1Call => "x",
+            Service::Dpv1Answer => "y",
+            Service::TypedValue => "v",
         }
     }
 
@@ -61,6 +74,9 @@ impl Service {
             Service::Configuration => "configuration",
             Service::SetSlaveAdr => "Set_Slave_Adr",
             Service::GlobalControl => "Global_Control",
+            Service::Dpv1Call => "DPV1 call",
+            Service::Dpv1Answer => "DPV1 answer",
+            Service::TypedValue => "typed value",
         }
     }
 
@@ -72,6 +88,9 @@ impl Service {
             Service::Parameters(mode) => parameters_line(bytes, mode),
             Service::SetSlaveAdr => set_slave_adr_line(bytes),
             Service::GlobalControl => global_control_line(bytes),
+            Service::Dpv1Call => acyclic_text::call_line(bytes),
+            Service::Dpv1Answer => acyclic_text::answer_line(bytes),
+            Service::TypedValue => acyclic_text::typed_line(bytes),
         };
         accepted.unwrap_or_else(|refusal| refusal.to_string())
     }
@@ -125,14 +144,14 @@ impl<T> Walk<T> {
 
 /// What a writer stores; no part of a service's data, nor the whole, is longer
 /// than its output here.
-fn written(write: impl FnOnce(&mut [u8]) -> Result<usize, u8>) -> Result<Vec<u8>, u8> {
+pub(super) fn written(write: impl FnOnce(&mut [u8]) -> Result<usize, u8>) -> Result<Vec<u8>, u8> {
     let mut out = [0; LONGEST_DATA];
     let length = write(&mut out)?;
     Ok(out[..length].to_vec())
 }
 
 /// What writing again came to.
-fn again(outcome: Result<Vec<u8>, u8>) -> String {
+pub(super) fn again(outcome: Result<Vec<u8>, u8>) -> String {
     match outcome {
         Ok(bytes) => stored_text(&bytes),
         Err(refusal) => format!(" = {refusal}"),
@@ -221,7 +240,7 @@ fn parameters_line(bytes: &[u8], mode: Mode) -> Result<String, u8> {
 }
 
 /// Where the last bytes of the data start, and how many they are.
-fn rest_text(bytes: &[u8], rest: &[u8]) -> String {
+pub(super) fn rest_text(bytes: &[u8], rest: &[u8]) -> String {
     let (start, length) = (bytes.len() - rest.len(), rest.len());
     format!(" {start} {length}")
 }
@@ -318,8 +337,8 @@ mod tests {
             assert_eq!(Service::of_letter(service.letter()), Some(service));
         }
         let letters = Service::ALL.map(Service::letter);
-        assert_eq!(letters, ["d", "p", "q", "c", "a", "g"]);
-        for letter in ["", "D", "t", "x", "dd", "d ", "=", "é"] {
+        assert_eq!(letters, ["d", "p", "q", "c", "a", "g", "x", "y", "v"]);
+        for letter in ["", "D", "t", "z", "dd", "d ", "=", "é"] {
             assert_eq!(Service::of_letter(letter), None, "{letter:?}");
         }
     }

@@ -242,7 +242,7 @@ mod tests {
     #[test]
     fn malformed_vectors_name_their_line() {
         for malformed in [
-            "E", "E5 ", " E5", "E5  E5", "E5\tE5", "+5", "G5", "E5E5", "E5\r", "=", "=x", "=D",
+            "E", "E5 ", " E5", "E5  E5", "E5\tE5", "+5", "G5", "E5E5", "E5\r", "=", "=z", "=D",
             "=dd", "=d ", "=d\r", " =d", "= d", "==d", "=d E5", "E5 =d", "=\u{e9}",
         ] {
             assert_eq!(

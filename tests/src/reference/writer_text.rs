@@ -6,6 +6,7 @@
 //! answer is the refusal number, or `0 =` and the bytes that were stored. Bytes
 //! that do not make fields are answered `malformed`.
 
+use super::acyclic_text;
 use super::configuration::{self, Identifier, Module, Side};
 use super::control::{self, GlobalControl, SetSlaveAdr};
 use super::diagnosis::{self, Channel, Header};
@@ -49,11 +50,23 @@ pub enum Writer {
     SetSlaveAdr,
     /// A Global_Control: command, groups; what follows is lent.
     GlobalControl,
+    /// A DPV1 call: its kind (0 poll, 1 read, 2 write, 3 alarm acknowledgement, 4
+    /// idle, 5 data transport) and three bytes, which are slot, index and length,
+    /// or slot, type and specifier of the alarm; its data is lent. A byte that the
+    /// kind does not have is not looked at.
+    Dpv1Call,
+    /// A DPV1 answer, as a call: the kinds 1 to 5 are positive; 6 read, 7 write, 8
+    /// alarm acknowledgement and 9 data transport are negative, and their three
+    /// bytes are decode, code 1 and code 2.
+    Dpv1Answer,
+    /// A typed value: its code, 9 for the bits of a NaN, and four bytes, of which
+    /// a short value has the last; a Boolean is a flag there.
+    TypedValue,
 }
 
 impl Writer {
     /// Every writer, the parameters in both modes.
-    pub const ALL: [Writer; 10] = [
+    pub const ALL: [Writer; 13] = [
         Writer::Diagnosis,
         Writer::DeviceBlock,
         Writer::ModuleBlock,
@@ -64,6 +77,9 @@ impl Writer {
         Writer::Configuration,
         Writer::SetSlaveAdr,
         Writer::GlobalControl,
+        Writer::Dpv1Call,
+        Writer::Dpv1Answer,
+        Writer::TypedValue,
     ];
 
     /// What stands after `>` in the line that announces its fields.
@@ -79,6 +95,9 @@ impl Writer {
             Writer::Configuration => "c",
             Writer::SetSlaveAdr => "a",
             Writer::GlobalControl => "g",
+            Writer::Dpv1Call => "x",
+            Writer::Dpv1Answer => "y",
+            Writer::TypedValue => "v",
         }
     }
 
@@ -101,6 +120,9 @@ impl Writer {
             Writer::Configuration => "configuration writer",
             Writer::SetSlaveAdr => "Set_Slave_Adr writer",
             Writer::GlobalControl => "Global_Control writer",
+            Writer::Dpv1Call => "DPV1 call writer",
+            Writer::Dpv1Answer => "DPV1 answer writer",
+            Writer::TypedValue => "typed value writer",
         }
     }
 
@@ -117,6 +139,9 @@ impl Writer {
             Writer::Configuration => configuration_line,
             Writer::SetSlaveAdr => set_slave_adr_line,
             Writer::GlobalControl => global_control_line,
+            Writer::Dpv1Call => acyclic_text::call_writer_line,
+            Writer::Dpv1Answer => acyclic_text::answer_writer_line,
+            Writer::TypedValue => acyclic_text::typed_writer_line,
         };
         line(bytes).unwrap_or_else(|| String::from(MALFORMED))
     }
@@ -303,9 +328,11 @@ mod tests {
             assert_eq!(Writer::of_letter(writer.letter()), Some(writer));
         }
         let letters = Writer::ALL.map(Writer::letter);
-        let expected = ["d", "e", "m", "h", "p", "q", "n", "c", "a", "g"];
+        let expected = [
+            "d", "e", "m", "h", "p", "q", "n", "c", "a", "g", "x", "y", "v",
+        ];
         assert_eq!(letters, expected);
-        for letter in ["", "D", "t", "dd", "d ", ">", "é"] {
+        for letter in ["", "D", "t", "X", "z", "dd", "d ", ">", "é"] {
             assert_eq!(Writer::of_letter(letter), None, "{letter:?}");
         }
     }
@@ -789,11 +816,15 @@ mod tests {
             (Writer::Configuration, 1),
             (Writer::SetSlaveAdr, 5),
             (Writer::GlobalControl, 3),
+            (Writer::Dpv1Call, 5),
+            (Writer::Dpv1Answer, 5),
+            (Writer::TypedValue, 6),
         ] {
+            // Every flag, kind and code can be 1.
             for length in 0..fewest {
-                assert_eq!(writer.answer(&vec![0; length]), MALFORMED, "{writer:?}");
+                assert_eq!(writer.answer(&vec![1; length]), MALFORMED, "{writer:?}");
             }
-            assert_ne!(writer.answer(&vec![0; fewest]), MALFORMED, "{writer:?}");
+            assert_ne!(writer.answer(&vec![1; fewest]), MALFORMED, "{writer:?}");
         }
     }
 
@@ -830,6 +861,22 @@ mod tests {
             "malformed",
             ["FF 02 01 03 01 06 00", "00 40 00 40 00 20 00 00"],
         );
+    }
+
+    #[test]
+    fn kinds_and_codes_out_of_range_are_no_fields() {
+        for (writer, known) in [
+            (Writer::Dpv1Call, 0..=5),
+            (Writer::Dpv1Answer, 1..=9),
+            (Writer::TypedValue, 1..=9),
+        ] {
+            for byte in 0..=255 {
+                // The last is data to the first two, and may be refused.
+                let answer = writer.answer(&[255, byte, 128, 0xB0, 0, 1]);
+                let is_malformed = answer == MALFORMED;
+                assert_eq!(is_malformed, !known.contains(&byte), "{writer:?} {byte}");
+            }
+        }
     }
 
     #[test]

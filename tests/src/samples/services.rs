@@ -1,6 +1,6 @@
 //! Samples of every service's data by the service, and those of the vectors.
 
-use super::{configuration, control, diagnosis, parameters};
+use super::{acyclic, configuration, control, diagnosis, parameters, typed};
 use super::{cut_short, group, lengthened, often_up_to, with_one_byte_changed, Group};
 use crate::random::Random;
 use crate::reference::control::{GLOBAL_CONTROL_LENGTH, SET_SLAVE_ADR_LENGTH};
@@ -38,6 +38,8 @@ pub fn refusals(service: Service) -> &'static [u8] {
         Service::Diagnosis => &[20, 21, 22, 23, 24, 25],
         Service::Configuration => &[20, 24, 26, 27],
         Service::Parameters(_) | Service::SetSlaveAdr | Service::GlobalControl => &[20, 21],
+        Service::Dpv1Call | Service::Dpv1Answer => &[20, 21, 28],
+        Service::TypedValue => &[20, 29],
     }
 }
 
@@ -49,6 +51,17 @@ pub fn any_valid(random: &mut Random, service: Service) -> Vec<u8> {
         Service::Configuration => configuration::any_valid(random).bytes,
         Service::SetSlaveAdr => control::set_slave_adr(random),
         Service::GlobalControl => control::global_control(random),
+        Service::Dpv1Call => acyclic::any_call(random),
+        Service::Dpv1Answer => acyclic::any_answer(random),
+        Service::TypedValue => typed::any_valid(random),
+    }
+}
+
+/// The same with bytes to damage, which a poll has not.
+fn any_valid_with_bytes(random: &mut Random, service: Service) -> Vec<u8> {
+    match service {
+        Service::Dpv1Call => acyclic::any_call_with_bytes(random),
+        _ => any_valid(random, service),
     }
 }
 
@@ -60,6 +73,9 @@ pub fn all_forms(random: &mut Random, service: Service) -> Vec<Vec<u8>> {
         Service::Configuration => bytes_of(configuration::all_forms(random)),
         Service::SetSlaveAdr => control::all_set_slave_adr(random),
         Service::GlobalControl => control::all_global_control(random),
+        Service::Dpv1Call => acyclic::all_calls(random),
+        Service::Dpv1Answer => acyclic::all_answers(random),
+        Service::TypedValue => typed::all_forms(random),
     }
 }
 
@@ -71,6 +87,9 @@ fn few_forms(random: &mut Random, service: Service) -> Vec<Vec<u8>> {
         Service::Configuration => bytes_of(configuration::few_forms(random)),
         Service::SetSlaveAdr => control::few_set_slave_adr(random),
         Service::GlobalControl => control::few_global_control(random),
+        Service::Dpv1Call => acyclic::few_calls(random),
+        Service::Dpv1Answer => acyclic::few_answers(random),
+        Service::TypedValue => typed::few_forms(),
     }
 }
 
@@ -97,10 +116,13 @@ pub fn damages(service: Service) -> Vec<Source> {
         Service::GlobalControl => {
             vec![Source::new("command wrong", control::global_control_wrong)]
         }
+        Service::Dpv1Call => call_damages(),
+        Service::Dpv1Answer => answer_damages(),
+        Service::TypedValue => typed_damages(),
     };
     sources.extend(of_any_data.map(|(name, damage)| {
         Source::new(name, move |random| {
-            let bytes = any_valid(random, service);
+            let bytes = any_valid_with_bytes(random, service);
             damage(random, &bytes)
         })
     }));
@@ -138,6 +160,34 @@ fn configuration_damages() -> Vec<Source> {
     ]
 }
 
+fn call_damages() -> Vec<Source> {
+    vec![
+        Source::new("function number wrong", acyclic::call_number_wrong),
+        Source::new("length or count wrong", acyclic::call_length_wrong),
+        Source::new("length above 240", acyclic::call_byte_wrong),
+    ]
+}
+
+fn answer_damages() -> Vec<Source> {
+    vec![
+        Source::new("function number wrong", acyclic::answer_number_wrong),
+        Source::new("length or count wrong", acyclic::answer_length_wrong),
+        Source::new(
+            "length above 240 or decode wrong",
+            acyclic::answer_byte_wrong,
+        ),
+        Source::new("error code reserved", acyclic::error_code_reserved),
+    ]
+}
+
+fn typed_damages() -> Vec<Source> {
+    vec![
+        Source::new("code wrong", typed::code_wrong),
+        Source::new("length wrong", typed::length_wrong),
+        Source::new("Boolean wrong", typed::boolean_wrong),
+    ]
+}
+
 /// Data that was never valid, or is by chance.
 pub fn noises(service: Service) -> Vec<Source> {
     const NAME: &str = "any bytes of the right length";
@@ -153,6 +203,14 @@ pub fn noises(service: Service) -> Vec<Source> {
         Service::GlobalControl => Some(Source::new(NAME, |random| {
             random.bytes(GLOBAL_CONTROL_LENGTH)
         })),
+        Service::Dpv1Call | Service::Dpv1Answer => Some(Source::new(
+            "any bytes after a function number",
+            acyclic::noise_after_number,
+        )),
+        Service::TypedValue => Some(Source::new(
+            "any bytes after a code",
+            typed::noise_after_code,
+        )),
         // Any bytes are of a right length often enough.
         Service::Parameters(_) | Service::Configuration => None,
     });
@@ -195,7 +253,12 @@ fn worked_row(service: Service) -> Option<&'static [u8]> {
     match service {
         Service::Diagnosis => Some(&diagnosis::WORKED_ROW),
         Service::Configuration => Some(&configuration::WORKED_ROW),
-        Service::Parameters(_) | Service::SetSlaveAdr | Service::GlobalControl => None,
+        Service::Parameters(_)
+        | Service::SetSlaveAdr
+        | Service::GlobalControl
+        | Service::Dpv1Call
+        | Service::Dpv1Answer
+        | Service::TypedValue => None,
     }
 }
 

@@ -1,13 +1,14 @@
 //! Fields to write, right and wrong, as lines of the vectors.
 
 use super::services::LONGEST_LINE;
-use super::{configuration, control, diagnosis, parameters};
+use super::{acyclic_fields, configuration, control, diagnosis, parameters, typed};
 use super::{group, often_up_to, Group};
 use crate::random::Random;
 use crate::reference::configuration::{Identifier, Side};
 use crate::reference::parameters::Mode;
 use crate::reference::writer_text::Writer;
 use std::iter;
+use std::ops::RangeInclusive;
 
 /// The most room that a line can give.
 const MOST_ROOM: usize = 255;
@@ -22,7 +23,11 @@ pub fn refusals(writer: Writer) -> &'static [u8] {
         Writer::ChannelBlock => &[11, 21, 25],
         Writer::Module => &[11, 21, 26],
         Writer::Configuration => &[11, 20, 24, 26, 27],
-        Writer::Parameters(_) | Writer::SetSlaveAdr | Writer::GlobalControl => &[11, 20, 21],
+        Writer::Parameters(_) | Writer::SetSlaveAdr | Writer::GlobalControl | Writer::Dpv1Call => {
+            &[11, 20, 21]
+        }
+        Writer::Dpv1Answer => &[11, 20, 21, 28],
+        Writer::TypedValue => &[11, 12],
     }
 }
 
@@ -42,10 +47,12 @@ pub fn line(random: &mut Random, writer: Writer) -> Vec<u8> {
 /// A line whose bytes do not make fields.
 pub fn malformed(random: &mut Random, writer: Writer) -> Vec<u8> {
     let mut line = line(random, writer);
-    let flags = flags(writer);
-    let takes_no_more = matches!(writer, Writer::ChannelBlock | Writer::Module);
+    let takes_no_more = matches!(
+        writer,
+        Writer::ChannelBlock | Writer::Module | Writer::TypedValue
+    );
     match random.below(3) {
-        0 if !flags.is_empty() => line[1 + random.pick(flags)] = random.between(2, 255) as u8,
+        0 if !choices(writer).is_empty() => spoil_choice(random, writer, &mut line[1..]),
         1 if takes_no_more => {
             if writer == Writer::Module {
                 // Only a general module takes no vendor bytes.
@@ -60,6 +67,22 @@ pub fn malformed(random: &mut Random, writer: Writer) -> Vec<u8> {
     line
 }
 
+/// Gives fields that have a choice a byte that is none of those to choose from.
+fn spoil_choice(random: &mut Random, writer: Writer, fields: &mut [u8]) {
+    if writer == Writer::TypedValue && random.below(2) == 0 {
+        // The last byte is a flag, but only of a Boolean.
+        fields[0] = 1;
+        fields[4] = random.between(2, 255) as u8;
+        return;
+    }
+    let (place, known) = random.pick(choices(writer));
+    let (least, most) = known.clone().into_inner();
+    fields[*place] = match least.checked_sub(1) {
+        Some(below) if random.below(2) == 0 => below,
+        _ => random.between(usize::from(most) + 1, 255) as u8,
+    };
+}
+
 /// How many bytes the fields have without what is lent after them.
 fn fewest(writer: Writer) -> usize {
     match writer {
@@ -69,16 +92,28 @@ fn fewest(writer: Writer) -> usize {
         Writer::Parameters(Mode::Dpv0) => 7,
         Writer::Parameters(Mode::Dpv1) => 10,
         Writer::Module => 9,
-        Writer::SetSlaveAdr => 4,
+        Writer::SetSlaveAdr | Writer::Dpv1Call | Writer::Dpv1Answer => 4,
         Writer::GlobalControl => 2,
+        Writer::TypedValue => 5,
     }
 }
 
-/// The places among the fields that are 0 or 1.
-fn flags(writer: Writer) -> &'static [usize] {
+/// The places among the fields at which a flag, a kind or a code stands, and the
+/// bytes that can stand there.
+fn choices(writer: Writer) -> &'static [(usize, RangeInclusive<u8>)] {
     match writer {
-        Writer::Module => &[0, 1, 3, 4, 5, 7, 8],
-        Writer::SetSlaveAdr => &[3],
+        Writer::Module => &[
+            (0, 0..=1),
+            (1, 0..=1),
+            (3, 0..=1),
+            (4, 0..=1),
+            (5, 0..=1),
+            (7, 0..=1),
+            (8, 0..=1),
+        ],
+        Writer::SetSlaveAdr => &[(3, 0..=1)],
+        Writer::Dpv1Call => &[(0, 0..=5)],
+        Writer::Dpv1Answer | Writer::TypedValue => &[(0, 1..=9)],
         _ => &[],
     }
 }
@@ -92,6 +127,12 @@ fn to_be_stored(writer: Writer, fields: &[u8]) -> usize {
         (Writer::Module, [_, input, _, _, _, output, _, _, _, vendor @ ..]) => {
             1 + usize::from(*input) + usize::from(*output) + vendor.len()
         }
+        // A poll has no bytes, and idle has only its number.
+        (Writer::Dpv1Call, [0, ..]) => 0,
+        (Writer::Dpv1Call | Writer::Dpv1Answer, [4, ..]) => 1,
+        (Writer::TypedValue, [1 | 2 | 5, ..]) => 2,
+        (Writer::TypedValue, [3 | 6, ..]) => 3,
+        // The kind takes the place of the number, and other fields their own.
         (_, bytes) => bytes.len(),
     }
 }
@@ -109,7 +150,7 @@ fn room(random: &mut Random, to_be_stored: usize) -> u8 {
     room as u8
 }
 
-/// Fields that are right, those of a channel and of a module mostly.
+/// Fields that are right, those of a channel, of a module and of DPV1 mostly.
 fn right(random: &mut Random, writer: Writer) -> Vec<u8> {
     match writer {
         Writer::Diagnosis => diagnosis::any_valid(random),
@@ -123,6 +164,12 @@ fn right(random: &mut Random, writer: Writer) -> Vec<u8> {
         Writer::Configuration => configuration::any_valid(random).bytes,
         Writer::SetSlaveAdr => control::set_slave_adr(random),
         Writer::GlobalControl => control::global_control(random),
+        Writer::Dpv1Call => acyclic_fields::call_line(random),
+        Writer::Dpv1Answer => acyclic_fields::answer_line(random),
+        Writer::TypedValue => {
+            let value = typed::right_value(random);
+            typed::value_line(random, value)
+        }
     }
 }
 
@@ -137,11 +184,18 @@ fn wrong(random: &mut Random, writer: Writer) -> Vec<u8> {
         Writer::Configuration => configuration::damaged(random),
         Writer::SetSlaveAdr => control::damaged_set_slave_adr(random),
         Writer::GlobalControl => control::damaged_global_control(random),
+        Writer::Dpv1Call => acyclic_fields::call_line(random),
+        Writer::Dpv1Answer => acyclic_fields::answer_line(random),
+        Writer::TypedValue => {
+            let value = typed::wrong_value(random);
+            typed::value_line(random, value)
+        }
     });
     // Damaged data need not make fields any more.
     let mut fields = samples.filter(|bytes| {
-        let mut flags = flags(writer).iter();
-        bytes.len() >= fewest(writer) && flags.all(|place| bytes[*place] <= 1)
+        let mut choices = choices(writer).iter();
+        bytes.len() >= fewest(writer)
+            && choices.all(|(place, known)| known.contains(&bytes[*place]))
     });
     fields.next().expect("they never end")
 }
@@ -153,8 +207,10 @@ fn wrong_in_several_places(random: &mut Random, writer: Writer) -> Vec<u8> {
     match writer {
         // Often wrong in several places already.
         Writer::ChannelBlock => {}
+        // Nothing else can be wrong.
+        Writer::TypedValue => {}
         Writer::Module => spoil_module(random, &mut fields),
-        Writer::SetSlaveAdr | Writer::GlobalControl => {
+        Writer::SetSlaveAdr | Writer::GlobalControl | Writer::Dpv1Call | Writer::Dpv1Answer => {
             let count = often_up_to(random, 1, 3, LONGEST_LINE);
             fields.extend(random.bytes(count));
         }
@@ -257,9 +313,8 @@ pub fn groups() -> Vec<(Writer, Group)> {
 }
 
 fn groups_of(random: &mut Random, writer: Writer) -> [Group; 3] {
-    const ACCEPTED: usize = 8;
     const OF_EACH_NUMBER: usize = 2;
-    let accepted = answered(random, writer, 0, ACCEPTED);
+    let accepted = accepted(random, writer);
     let mut refused = Vec::new();
     for number in refusals(writer) {
         refused.extend(answered(random, writer, *number, OF_EACH_NUMBER));
@@ -272,6 +327,22 @@ fn groups_of(random: &mut Random, writer: Writer) -> [Group; 3] {
         group("refused", refused),
         group("malformed", no_fields),
     ]
+}
+
+/// A few lines that are accepted, among them each flag, kind and code.
+fn accepted(random: &mut Random, writer: Writer) -> Vec<Vec<u8>> {
+    const FEW: usize = 8;
+    let mut lines = answered(random, writer, 0, FEW);
+    for (place, known) in choices(writer) {
+        for byte in known.clone() {
+            let has_byte = |line: &Vec<u8>| line[1 + place] == byte;
+            if !lines.iter().any(has_byte) {
+                let mut more = iter::repeat_with(|| answered(random, writer, 0, 1)).flatten();
+                lines.extend(more.find(has_byte));
+            }
+        }
+    }
+    lines
 }
 
 /// Lines whose answers begin with the number; they are short, unless they are
@@ -355,9 +426,31 @@ mod tests {
                 }
                 line[0] = to_be_stored(writer, &line[1..]) as u8;
                 assert_eq!(first_number(writer, &line), Some(0), "{line:02X?}");
-                line[0] -= 1;
-                assert_eq!(first_number(writer, &line), Some(11), "{line:02X?}");
+                // A poll needs no room.
+                if line[0] > 0 {
+                    line[0] -= 1;
+                    assert_eq!(first_number(writer, &line), Some(11), "{line:02X?}");
+                }
             }
+        }
+    }
+
+    #[test]
+    fn every_kind_and_code_is_accepted_and_refused() {
+        let random = &mut Random::new(6);
+        for (writer, accepted, refused) in [
+            (Writer::Dpv1Call, 0..=5, 0..=5),
+            (Writer::Dpv1Answer, 1..=9, 1..=9),
+            (Writer::TypedValue, 1..=9, 1..=9),
+        ] {
+            let mut found = [BTreeSet::new(), BTreeSet::new()];
+            for _ in 0..2000 {
+                let line = line(random, writer);
+                let number = first_number(writer, &line).expect("fields");
+                found[usize::from(number > 0)].insert(line[1]);
+            }
+            let expected = [accepted.collect(), refused.collect()];
+            assert_eq!(found, expected, "{writer:?}");
         }
     }
 
@@ -369,14 +462,24 @@ mod tests {
         status1 & 0xA1 != 0 || status2 & 0xC4 != 4 || status3 & 0x7F != 0 || !has_master
     }
 
-    /// Two faults that get different numbers, by the first bytes of a line or by
-    /// its length.
+    /// Whether a line has two faults that get different numbers, by its first bytes
+    /// or its length.
+    type Faults = fn(&[u8]) -> bool;
+
+    fn check_together<const N: usize>(pairs: [(Writer, Faults); N]) {
+        let random = &mut Random::new(4);
+        for (place, (writer, has_both)) in pairs.into_iter().enumerate() {
+            let found = (0..10_000).filter(|_| has_both(&line(random, writer)));
+            let count = found.count();
+            assert!(count >= 10, "pair {place}, {writer:?}: {count}");
+        }
+    }
+
     #[test]
     fn faults_come_together() {
-        type Faults = fn(&[u8]) -> bool;
         const DPV0: Writer = Writer::Parameters(Mode::Dpv0);
         const DPV1: Writer = Writer::Parameters(Mode::Dpv1);
-        let pairs: [(Writer, Faults); 12] = [
+        check_together([
             (Writer::Diagnosis, |line| {
                 has_wrong_header(line) && line.len() > 245
             }),
@@ -399,13 +502,31 @@ mod tests {
             (Writer::GlobalControl, |line| {
                 line[1] & 0xC1 != 0 && line.len() > 3
             }),
-        ];
-        let random = &mut Random::new(4);
-        for (place, (writer, has_both)) in pairs.into_iter().enumerate() {
-            let found = (0..10_000).filter(|_| has_both(&line(random, writer)));
-            let count = found.count();
-            assert!(count >= 10, "pair {place}, {writer:?}: {count}");
-        }
+        ]);
+    }
+
+    #[test]
+    fn faults_of_dpv1_and_typed_values_come_together() {
+        check_together([
+            (Writer::Dpv1Call, |line| {
+                line[1] == 1 && line[4] > 240 && line.len() > 5
+            }),
+            (Writer::Dpv1Answer, |line| {
+                line[1] == 2 && line[4] > 240 && line.len() > 5
+            }),
+            (Writer::Dpv1Answer, |line| {
+                line[1] > 5 && line[2] < 128 && line.len() > 5
+            }),
+            (Writer::Dpv1Answer, |line| {
+                line[1] > 5 && line[2] == 128 && line[3] < 0xA0 && line.len() > 5
+            }),
+            (Writer::Dpv1Answer, |line| {
+                line[1] > 5 && line[2] < 128 && line[3] < 0xA0
+            }),
+            (Writer::TypedValue, |line| {
+                line[0] < 5 && line[1] == 9 && line[2] < 0x7F
+            }),
+        ]);
     }
 
     #[test]
@@ -420,11 +541,40 @@ mod tests {
             }
             assert!((0..=fewest(writer)).all(|length| lengths.contains(&length)));
             let is_more = lengths.contains(&(1 + fewest(writer)));
-            let can_be_more = matches!(
-                writer,
-                Writer::ChannelBlock | Writer::Module | Writer::SetSlaveAdr
-            );
+            let can_be_more = !choices(writer).is_empty() || writer == Writer::ChannelBlock;
             assert_eq!(is_more, can_be_more, "{writer:?}");
+        }
+    }
+
+    #[test]
+    fn kinds_codes_and_booleans_are_malformed_in_every_way() {
+        type Way = fn(&[u8]) -> bool;
+        let ways: [(Writer, Way); 8] = [
+            (Writer::Dpv1Call, |line| line[1] == 6),
+            (Writer::Dpv1Call, |line| line[1] == 255),
+            (Writer::Dpv1Answer, |line| line[1] == 0),
+            (Writer::Dpv1Answer, |line| line[1] > 9),
+            (Writer::TypedValue, |line| line[1] == 0),
+            (Writer::TypedValue, |line| line[1] > 9),
+            (Writer::TypedValue, |line| line[1] == 1 && line[5] > 1),
+            (Writer::TypedValue, |line| {
+                (2..=9).contains(&line[1]) && line.len() > 6
+            }),
+        ];
+        let random = &mut Random::new(7);
+        for (place, (writer, is_so)) in ways.into_iter().enumerate() {
+            let lines = (0..10_000).map(|_| malformed(random, writer));
+            let whole = lines.filter(|line| line.len() > fewest(writer));
+            let count = whole.filter(|line| is_so(line)).count();
+            assert!(count >= 5, "way {place}, {writer:?}: {count}");
+        }
+    }
+
+    /// The lines have each flag, kind and code, and no other.
+    fn check_choices(writer: Writer, lines: &[Vec<u8>]) {
+        for (place, known) in choices(writer) {
+            let found: BTreeSet<u8> = lines.iter().map(|line| line[1 + place]).collect();
+            assert!(found.into_iter().eq(known.clone()), "{writer:?} {place}");
         }
     }
 
@@ -440,6 +590,9 @@ mod tests {
                 _ => number.is_none(),
             };
             assert!(found.iter().all(is_right), "{writer:?} {}", group.name);
+            if group.name == "accepted" {
+                check_choices(writer, &group.inputs);
+            }
             numbers.entry(writer.letter()).or_default().extend(found);
         }
         for writer in Writer::ALL {
