@@ -1,5 +1,6 @@
 /*
- * Rabtunex: PROFIBUS DP telegrams, read and written; diagnosis and configuration data, read.
+ * Rabtunex: PROFIBUS DP telegrams and DPV1 calls and answers, read and written; diagnosis and
+ * configuration data, read.
  *
  * Every function takes all inputs and returns. It answers 0, or the refusal number of its
  * input's first fault (RABTUNEX_REFUSED_..), and then has stored nothing. Nothing is kept
@@ -39,6 +40,7 @@ extern "C" {
 #define RABTUNEX_REFUSED_CHANNEL_CODE 25 /* a code of a channel block is reserved */
 #define RABTUNEX_REFUSED_VENDOR_COUNT 26 /* a module's vendor count is 15 */
 #define RABTUNEX_REFUSED_PROCESS_DATA 27 /* over 244 input or 244 output bytes */
+#define RABTUNEX_REFUSED_DPV1 28         /* a DPV1 function number or error code is reserved */
 
 /* The longest telegram: an output of so many bytes is never too small. */
 #define RABTUNEX_TELEGRAM_MAX 255
@@ -155,6 +157,83 @@ uint8_t rabtunex_next_block(const uint8_t *bytes, size_t bytes_len, size_t *posi
 uint8_t rabtunex_configuration_offsets(const uint8_t *bytes, size_t bytes_len, uint16_t *inputs,
                                        size_t inputs_len, uint16_t *outputs, size_t outputs_len,
                                        size_t totals[RABTUNEX_TOTALS]);
+
+/* The most data bytes of a DPV1 call or answer. */
+#define RABTUNEX_DPV1_DATA_MAX 240
+
+/* The longest DPV1 call or answer: an output of so many bytes is never too small. */
+#define RABTUNEX_DPV1_MAX 244
+
+/* The fields of a DPV1 call or answer: an array of RABTUNEX_DPV1_FIELDS bytes. The first is its
+ * number, the last two say where its data are; the three between them are named by the case below,
+ * and one that the case does not have is 0. */
+#define RABTUNEX_DPV1_FIELDS 6
+#define RABTUNEX_DPV1_NUMBER 0 /* RABTUNEX_DPV1_READ .. RABTUNEX_DPV1_POLL */
+#define RABTUNEX_DPV1_START 4  /* where the data begin in the bytes */
+#define RABTUNEX_DPV1_LEN 5    /* how many data bytes there are */
+
+/* All but idle, poll and negative answers: the slot. */
+#define RABTUNEX_DPV1_SLOT 1
+
+/* Read, write and data transport. A read call asks for so many bytes and a write answer says that
+ * so many were written; the others have data instead of a length. */
+#define RABTUNEX_DPV1_INDEX 2
+#define RABTUNEX_DPV1_LENGTH 3 /* 0 to RABTUNEX_DPV1_DATA_MAX */
+
+/* Alarm acknowledgement. */
+#define RABTUNEX_DPV1_ALARM 2     /* alarm type */
+#define RABTUNEX_DPV1_SPECIFIER 3 /* alarm specifier */
+
+/* Negative answer. */
+#define RABTUNEX_DPV1_DECODE 1 /* whose error codes they are: 128, 254 or 255 */
+#define RABTUNEX_DPV1_CODE1 2  /* error code 1 */
+#define RABTUNEX_DPV1_CODE2 3  /* error code 2 */
+
+/* Numbers, as they stand in the first byte. A poll is a call of no bytes, and no answer is one. */
+#define RABTUNEX_DPV1_READ 0x5E
+#define RABTUNEX_DPV1_WRITE 0x5F
+#define RABTUNEX_DPV1_ALARM_ACK 0x5C
+#define RABTUNEX_DPV1_IDLE 0x48
+#define RABTUNEX_DPV1_TRANSPORT 0x51
+#define RABTUNEX_DPV1_POLL 0
+
+/* The number of a negative answer is its function's number with this added; idle has none. Always
+ * compare the whole number: a positive write answer is exactly RABTUNEX_DPV1_WRITE, 0x5F, and a
+ * negative one exactly RABTUNEX_DPV1_NEGATIVE + RABTUNEX_DPV1_WRITE, 0xDF. Their low seven bits are
+ * the same: never compare those alone, or a refused write is taken for one that was performed. */
+#define RABTUNEX_DPV1_NEGATIVE 0x80
+
+/* Reads one DPV1 call, which is all of the bytes, into its fields. The data stay where they are:
+ * fields[RABTUNEX_DPV1_LEN] bytes from bytes + fields[RABTUNEX_DPV1_START]. No bytes are a poll. */
+uint8_t rabtunex_read_dpv1_call(const uint8_t *bytes, size_t bytes_len,
+                                uint8_t fields[RABTUNEX_DPV1_FIELDS]);
+
+/* The same of one DPV1 answer, positive or negative. No bytes give RABTUNEX_REFUSED_DATA_LENGTH.
+ * The answer to a write:
+ *
+ *     if (rabtunex_read_dpv1_answer(bytes, bytes_len, fields) == 0) {
+ *         if (fields[RABTUNEX_DPV1_NUMBER] == RABTUNEX_DPV1_WRITE) {
+ *             performed(fields);
+ *         } else if (fields[RABTUNEX_DPV1_NUMBER] ==
+ *                    RABTUNEX_DPV1_NEGATIVE + RABTUNEX_DPV1_WRITE) {
+ *             refused(fields);
+ *         }
+ *     }
+ */
+uint8_t rabtunex_read_dpv1_answer(const uint8_t *bytes, size_t bytes_len,
+                                  uint8_t fields[RABTUNEX_DPV1_FIELDS]);
+
+/* Writes one DPV1 call from its fields and data at the front of out, and its length to *stored: 0
+ * for a poll. RABTUNEX_DPV1_START and RABTUNEX_DPV1_LEN are not looked at, nor is any field that
+ * the case does not have, so that fields that were read can be given back as they are. A number
+ * that no call has, a negative one among them, gives RABTUNEX_REFUSED_DPV1 before all else; a
+ * count of data that the case does not take, RABTUNEX_REFUSED_DATA_LENGTH. */
+uint8_t rabtunex_write_dpv1_call(const uint8_t fields[RABTUNEX_DPV1_FIELDS], const uint8_t *data,
+                                 size_t data_len, uint8_t *out, size_t out_len, size_t *stored);
+
+/* The same of one DPV1 answer. No answer has the number of a poll. */
+uint8_t rabtunex_write_dpv1_answer(const uint8_t fields[RABTUNEX_DPV1_FIELDS], const uint8_t *data,
+                                   size_t data_len, uint8_t *out, size_t out_len, size_t *stored);
 
 #ifdef __cplusplus
 }

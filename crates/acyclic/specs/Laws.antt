@@ -12,6 +12,7 @@ use Rattle.acyclic.specs.Calls as calls
 use Rattle.acyclic.specs.Answers as answers
 use Rattle.acyclic.specs.Lemmas.Forms.{counted-within}
 use Rattle.acyclic.specs.Lemmas.Again.{part-count}
+use Rattle.acyclic.specs.Lemmas.Small.{call-fits, answer-fits, small}
 use Rattle.acyclic.specs.Lemmas.Calls as call-lemmas
 use Rattle.acyclic.specs.Lemmas.Answers as answer-lemmas
 use Rattle.acyclic.specs.declared.numbers.Function.{Function}
@@ -93,3 +94,17 @@ write-call-counted s {start = start} {len = len} e =
     let n = part-count s start len (call-data-inside s e) in
     let r = counted-within 1 (length (partOf s start len)) (w .0) in
     (ap (λ (t : List ℕ). getD t 3 0) (sym (w .1)) ∙ n, omega arith, omega arith)
+
+-- ---- how large a reading is
+
+-- At most four bytes stand before the data, and the data are at most 240.
+pub call-small : (s : List ℕ) {c : Call} {start len : ℕ} → calls.readCallOf s ≡ call-reading.Call c start len → (start ≤ 4) × (len ≤ 240)
+call-small s {c} {start} {len} e =
+    let w = call-writes-back s e in
+    small s (calls.fixedBytes c (length (partOf s start len))) start len (call-data-inside s e) (w .1) (call-fits c _ (w .0))
+
+-- the same of answers
+pub answer-small : (s : List ℕ) {x : Answer} {start len : ℕ} → answers.readAnswerOf s ≡ answer-reading.Answer x start len → (start ≤ 4) × (len ≤ 240)
+answer-small s {x} {start} {len} e =
+    let w = answer-writes-back s e in
+    small s (answers.fixedBytes x (length (partOf s start len))) start len (answer-data-inside s e) (w .1) (answer-fits x _ (w .0))

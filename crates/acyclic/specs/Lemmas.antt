@@ -2,3 +2,4 @@ pub mod Forms
 pub mod Again
 pub mod Calls
 pub mod Answers
+pub mod Small

@@ -7,7 +7,6 @@ use lib.Dec.{eqb}
 use Rattle.octets.specs.Choice.{pick}
 use Rattle.octets.specs.Front.{Verdict, fine, fault, answerBy, heldBy}
 use Rattle.octets.specs.declared.Written.{Written}
-use Rattle.octets.specs.declared.Written.the-variants as written
 use Rattle.fdl.specs.Writing.{telegramOf, verdictOf, tokenBytes, tokenVerdict, confirmationBytes}
 use Rattle.fdl.specs.declared.telegram.Format.{Format}
 use Rattle.fdl.specs.declared.telegram.Format.the-variants.{Sd1, Sd2, Sd3}
@@ -88,12 +87,3 @@ answerOf fields user room = answerBy (verdictAt (kindOf (getD fields 0 0)) field
 
 abbrev pub heldOf : (fields user out : List ℕ) → List ℕ
 heldOf fields user out = heldBy (verdictAt (kindOf (getD fields 0 0)) fields user) (bytesAt (kindOf (getD fields 0 0)) fields user) out
-
--- a writer's answer as a number, and what the lent count holds then
-abbrev pub statusOf : Written → ℕ
-statusOf (written.Stored n) = 0
-statusOf (written.Refused k) = k
-
-abbrev pub countAfter : Written → (before : ℕ) → ℕ
-countAfter (written.Stored n) before = n
-countAfter (written.Refused k) before = before

@@ -4,7 +4,9 @@ ghost use mathlib.Core.List.{_∷_, []};
 ghost use lib.ListN.{length};
 ghost use Rattle.octets.specs.Front.{answerBy, heldBy};
 ghost use Rattle.fdl.specs.Reading.{readOf};
-ghost use Rattle.capi.specs.Telegram.{formatNumber, sapNumber, sapOf, refusalOf, fieldsAfter, headerOf, kindOf, verdictAt, bytesAt, answerOf, heldOf, statusOf, countAfter};
+ghost use Rattle.capi.specs.Outcome.{statusOf, countAfter};
+ghost use Rattle.capi.specs.Telegram.{formatNumber, sapNumber, sapOf, refusalOf, fieldsAfter, headerOf, kindOf, verdictAt, bytesAt, answerOf, heldOf};
+use crate::outcome::store_count;
 use fdl::Format;
 use fdl::Header;
 use fdl::Reading;
@@ -175,11 +177,5 @@ pub extern "C" fn rabtunex_write_telegram(
     ensures count { λ _. ⌜ now (stored .exit) ≡ countAfter (answerOf (now (fields .entry)) (now (user .entry)) (length (now (out .entry)))) (now (stored .entry)) ⌝ }
 {
     let written = write_kind(kind_of(fields[0]), fields, user, out);
-    match written {
-        Written::Stored(n) => {
-            *stored = n;
-            0
-        }
-        Written::Refused(number) => number,
-    }
+    store_count(written, stored)
 }
