@@ -11,6 +11,7 @@ pub mod configuration;
 pub mod control;
 pub mod diagnosis;
 pub mod parameters;
+pub mod service_telegrams;
 pub mod services;
 pub mod typed;
 pub mod writers;

@@ -7,6 +7,8 @@ pub mod control;
 pub mod diagnosis;
 pub mod fields;
 pub mod parameters;
+pub mod service;
+pub mod service_telegram_text;
 pub mod service_text;
 pub mod telegram;
 pub mod text;
@@ -40,6 +42,9 @@ pub mod refusal {
     pub const FUNCTION: u8 = 8;
     /// An address extension is missing or above 63.
     pub const EXTENSION: u8 = 9;
+    /// The telegram carries no service: its SAP pair is not in the table, one SAP of
+    /// two is missing, or it goes the wrong way.
+    pub const SERVICE: u8 = 10;
     /// The lent output is too small.
     pub const OUTPUT: u8 = 11;
     /// A field of the caller's telegram, the position of a walk, or what a case
