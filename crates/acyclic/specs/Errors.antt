@@ -4,9 +4,9 @@ use mathlib.Core.Bool.{Bool, true}
 use lib.Dec.{eqb, leb}
 use Rattle.octets.specs.Choice.{pick, _or_}
 
--- 128, 254 or 255, and a byte is at most 255
+-- 128, 254 or 255
 abbrev pub goodDecode : ℕ → Bool
-goodDecode d = eqb d 128 or leb 254 d
+goodDecode d = eqb d 128 or eqb d 254 or eqb d 255
 
 -- class 10 codes 0..2, 8..15; class 11 all; class 12 codes 0..3, 8..15; classes 13..15 all. (Both have four bits.)
 unfoldable pub namedIn : (class code : ℕ) → Bool

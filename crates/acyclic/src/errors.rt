@@ -9,7 +9,10 @@ pub(crate) fn good_decode(decode: u8) -> bool
     if decode == 128 {
         return true;
     }
-    254 <= decode
+    if decode == 254 {
+        return true;
+    }
+    decode == 255
 }
 
 // Whether an error class of PROFIBUS DP has an error code.

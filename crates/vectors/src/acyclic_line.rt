@@ -184,7 +184,7 @@ fn written_answer(answer: Answer, data: &[u8], out: &mut [u8]) {
     stored(written, out);
 }
 
-// The fields of a negative answer, and its data, where it has none.
+// The fields of a negative answer.
 fn negative_fields(function: Function, fields: &[u8], out: &mut [u8]) {
     if fields.len() < 4 {
         malformed();
@@ -225,7 +225,7 @@ fn alarm_fields(fields: &[u8], out: &mut [u8]) {
     written_answer(answer, behind(fields, 4), out);
 }
 
-// The same for an answer.
+// A number for the kind of answer, three bytes for its fields, and its data.
 pub(crate) fn answer_fields(fields: &[u8], out: &mut [u8]) {
     if fields.len() < 4 {
         malformed();

@@ -27,18 +27,18 @@ pub call-fits : (c : Call) (count : ℕ) → calls.verdictOf c count ≡ fine �
 unfolding aloneOf rangedOf
 call-fits call.Poll count e = (omega arith, none-behind count _ e)
 call-fits (call.Read slot index len) count e = (omega arith, none-behind count _ e)
-call-fits (call.Write slot index) count e = (omega arith, counted-within 1 count e .1)
+call-fits (call.Write slot index) count e = (omega arith, counted-within _ count e .1)
 call-fits (call.AlarmAck slot alarm specifier) count e = (omega arith, none-behind count _ e)
 call-fits call.Idle count e = (omega arith, none-behind count _ e)
-call-fits (call.Transport slot index) count e = (omega arith, counted-within 0 count e .1)
+call-fits (call.Transport slot index) count e = (omega arith, counted-within _ count e .1)
 
 pub answer-fits : (x : Answer) (count : ℕ) → answers.verdictOf x count ≡ fine → (length (answers.fixedBytes x count) ≤ 4) × (count ≤ 240)
 unfolding aloneOf rangedOf negativeOf
-answer-fits (answer.Read slot index) count e = (omega arith, counted-within 0 count e .1)
+answer-fits (answer.Read slot index) count e = (omega arith, counted-within _ count e .1)
 answer-fits (answer.Write slot index len) count e = (omega arith, none-behind count _ e)
 answer-fits (answer.AlarmAck slot alarm specifier) count e = (omega arith, none-behind count _ e)
 answer-fits answer.Idle count e = (omega arith, none-behind count _ e)
-answer-fits (answer.Transport slot index) count e = (omega arith, counted-within 0 count e .1)
+answer-fits (answer.Transport slot index) count e = (omega arith, counted-within _ count e .1)
 answer-fits (answer.Negative f decode code1 code2) count e = (omega arith, none-behind count _ e)
 
 -- fixed bytes p with the data of s behind them are all of s
