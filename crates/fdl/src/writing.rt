@@ -5,7 +5,9 @@ ghost use Prim.Native.Nat.{_+_, _≤_};
 ghost use lib.ListN.{length, take, drop};
 ghost use Rattle.octets.specs.Front.{AtFront, fine, answerBy, heldBy};
 ghost use Rattle.fdl.specs.Code.{classOf};
-ghost use Rattle.fdl.specs.Writing.{goodSap, goodHeader, goodLength, startBytes, sapBytes, addressBytes, coreOf, endBytes, closedOf, telegramOf, verdictOf, tokenBytes, tokenVerdict, confirmationBytes};
+ghost use Rattle.fdl.specs.Telegram.{sapLength};
+ghost use Rattle.fdl.specs.Writing.{goodSap, goodHeader, goodLength, startBytes, sapBytes, addressBytes, coreOf, endBytes, closedOf, telegramOf, userStart, verdictOf, tokenBytes, tokenVerdict, confirmationBytes};
+ghost use Rattle.fdl.specs.Around.{userIn, headBytes, goodFields};
 use crate::code::reserved;
 use crate::telegram::Format;
 use crate::telegram::Header;
@@ -51,6 +53,33 @@ fn good_length(format: Format, pdu: usize) -> bool
         Format::Sd2 => { if pdu == 0 { false } else { pdu <= 246 } }
         Format::Sd3 => pdu == 8,
     }
+}
+
+fn start_length(format: Format) -> usize
+    ensures { λ r. ⌜ r ≡ length (startBytes format 0) ⌝ }
+{
+    match format {
+        Format::Sd1 => 1,
+        Format::Sd2 => 4,
+        Format::Sd3 => 1,
+    }
+}
+
+// How many bytes of the PDU both access points take.
+fn saps_length(header: Header) -> usize
+    ensures { λ r. ⌜ r ≡ sapLength (header .dsap) + sapLength (header .ssap) ⌝ }
+{
+    let dsap = header.dsap;
+    let ssap = header.ssap;
+    sap_length(dsap) + sap_length(ssap)
+}
+
+// LE: how many bytes stand from DA to the last of the user data.
+fn length_byte(header: Header, len: usize) -> u8
+    requires { ⌜ length (headBytes header) + len ≤ 249 ⌝ }
+    ensures { λ r. ⌜ r ≡ length (headBytes header) + len ⌝ }
+{
+    (3 + saps_length(header) + len) as u8
 }
 
 fn put_start(format: Format, le: u8, out: &mut [u8]) -> usize
@@ -103,31 +132,23 @@ fn put_sap(sap: Sap, out: &mut [u8]) -> usize
     }
 }
 
-fn put_user(ssap: Sap, user: &[u8], out: &mut [u8]) -> usize
-    requires { ⌜ length (sapBytes ssap ++ now user) ≤ length (now out) ⌝ }
-    ensures { λ r. ⌜ AtFront (sapBytes ssap ++ now (user .entry)) (now (out .entry)) (now (out .exit)) r ⌝ }
-{
-    let n = put_sap(ssap, out);
-    octets::store_behind(n, user, out)
-}
-
-fn put_pdu(dsap: Sap, ssap: Sap, user: &[u8], out: &mut [u8]) -> usize
-    requires { ⌜ length (sapBytes dsap ++ (sapBytes ssap ++ now user)) ≤ length (now out) ⌝ }
-    ensures { λ r. ⌜ AtFront (sapBytes dsap ++ (sapBytes ssap ++ now (user .entry))) (now (out .entry)) (now (out .exit)) r ⌝ }
+fn put_saps(dsap: Sap, ssap: Sap, out: &mut [u8]) -> usize
+    requires { ⌜ length (sapBytes dsap ++ sapBytes ssap) ≤ length (now out) ⌝ }
+    ensures { λ r. ⌜ AtFront (sapBytes dsap ++ sapBytes ssap) (now (out .entry)) (now (out .exit)) r ⌝ }
 {
     let n = put_sap(dsap, out);
-    n + put_user(ssap, user, &mut out[n..])
+    n + put_sap(ssap, &mut out[n..])
 }
 
-// Stores DA to the last byte of the PDU.
-fn put_core(header: Header, user: &[u8], out: &mut [u8]) -> usize
-    requires { ⌜ (header .da ≤ 127) × (header .sa ≤ 126) × (length (coreOf header (now user)) ≤ length (now out)) ⌝ }
-    ensures { λ r. ⌜ AtFront (coreOf header (now (user .entry))) (now (out .entry)) (now (out .exit)) r ⌝ }
+// Stores DA to the last access point: what stands between the start and the user data.
+fn put_head(header: Header, out: &mut [u8]) -> usize
+    requires { ⌜ (header .da ≤ 127) × (header .sa ≤ 126) × (length (headBytes header) ≤ length (now out)) ⌝ }
+    ensures { λ r. ⌜ AtFront (headBytes header) (now (out .entry)) (now (out .exit)) r ⌝ }
 {
     let dsap = header.dsap;
     let ssap = header.ssap;
     let n = put_addresses(header, out);
-    n + put_pdu(dsap, ssap, user, &mut out[n..])
+    n + put_saps(dsap, ssap, &mut out[n..])
 }
 
 // Stores the checksum of the n bytes in front, and the end byte, behind them.
@@ -140,33 +161,45 @@ fn put_end(n: usize, out: &mut [u8])
     out[n + 1] = 0x16;
 }
 
-// Stores DA to the end byte.
-fn put_closed(header: Header, user: &[u8], out: &mut [u8]) -> usize
-    requires { ⌜ (header .da ≤ 127) × (header .sa ≤ 126) × (length (coreOf header (now user)) ≤ 249) × (length (closedOf (coreOf header (now user))) ≤ length (now out)) ⌝ }
-    ensures { λ r. ⌜ AtFront (closedOf (coreOf header (now (user .entry)))) (now (out .entry)) (now (out .exit)) r ⌝ }
+// Makes DA to the end byte around the len bytes of user data, which stand in their place already.
+fn put_closed(header: Header, len: usize, out: &mut [u8]) -> usize
+    requires { ⌜ (header .da ≤ 127) × (header .sa ≤ 126) × (length (headBytes header) + len ≤ 249) × (length (headBytes header) + len + 2 ≤ length (now out)) ⌝ }
+    ensures { λ r. ⌜ AtFront (closedOf (coreOf header (take len (drop (length (headBytes header)) (now (out .entry)))))) (now (out .entry)) (now (out .exit)) r ⌝ }
 {
-    let n = put_core(header, user, out);
+    let n = put_head(header, out) + len;
     put_end(n, out);
     n + 2
 }
 
-// Stores a whole telegram, whose length byte is le.
-fn put_telegram(format: Format, header: Header, le: u8, user: &[u8], out: &mut [u8]) -> usize
-    requires { ⌜ (header .da ≤ 127) × (header .sa ≤ 126) × (le ≡ length (coreOf header (now user))) × (le ≤ 249) × (length (telegramOf format header (now user)) ≤ length (now out)) ⌝ }
-    ensures { λ r. ⌜ AtFront (telegramOf format header (now (user .entry))) (now (out .entry)) (now (out .exit)) r ⌝ }
+// Makes a whole telegram around the len bytes of user data, which stand in their place already.
+fn put_around(format: Format, header: Header, len: usize, out: &mut [u8]) -> usize
+    requires { ⌜ (header .da ≤ 127) × (header .sa ≤ 126) × (length (headBytes header) + len ≤ 249) × (userStart format header + len + 2 ≤ length (now out)) ⌝ }
+    ensures { λ r. ⌜ AtFront (telegramOf format header (userIn format header len (now (out .entry)))) (now (out .entry)) (now (out .exit)) r ⌝ }
 {
+    let le = length_byte(header, len);
     let n = put_start(format, le, out);
-    n + put_closed(header, user, &mut out[n..])
+    n + put_closed(header, len, &mut out[n..])
 }
 
-fn start_length(format: Format) -> usize
-    ensures { λ r. ⌜ r ≡ length (startBytes format 0) ⌝ }
+// Whether these fields may be written with len bytes of user data. No PDU is longer than 246 bytes:
+// that test keeps the sum within its bits.
+pub fn writable(format: Format, header: Header, len: usize) -> bool
+    ensures { λ r. ⌜ r ≡ goodFields format header len ⌝ }
 {
-    match format {
-        Format::Sd1 => 1,
-        Format::Sd2 => 4,
-        Format::Sd3 => 1,
+    if !good_header(header) {
+        return false;
     }
+    if 246 < len {
+        return false;
+    }
+    good_length(format, saps_length(header) + len)
+}
+
+// Where the user data of a telegram with these fields begin.
+pub fn user_start(format: Format, header: Header) -> usize
+    ensures { λ r. ⌜ r ≡ userStart format header ⌝ }
+{
+    start_length(format) + 3 + saps_length(header)
 }
 
 // Writes a telegram from its fields and user data.
@@ -174,21 +207,31 @@ pub fn write(format: Format, header: Header, user: &[u8], out: &mut [u8]) -> Wri
     ensures answer { λ r. ⌜ r ≡ answerBy (verdictOf format header (now (user .entry))) (telegramOf format header (now (user .entry))) (length (now (out .entry))) ⌝ }
     ensures bytes { λ _. ⌜ now (out .exit) ≡ heldBy (verdictOf format header (now (user .entry))) (telegramOf format header (now (user .entry))) (now (out .entry)) ⌝ }
 {
-    if !good_header(header) {
+    let len = user.len();
+    if !writable(format, header, len) {
         return Written::Refused(12);
     }
-    let dsap = header.dsap;
-    let ssap = header.ssap;
-    let saps = sap_length(dsap) + sap_length(ssap);
-    let pdu = saps + user.len();
-    if !good_length(format, pdu) {
-        return Written::Refused(12);
-    }
-    if out.len() < start_length(format) + (pdu + 5) {
+    let start = user_start(format, header);
+    if out.len() < start + len + 2 {
         return Written::Refused(11);
     }
-    let le = (pdu + 3) as u8;
-    Written::Stored(put_telegram(format, header, le, user, out))
+    octets::store_behind(start, user, out);
+    Written::Stored(put_around(format, header, len, out))
+}
+
+// Writes a telegram around len bytes of user data that the caller has put into out from
+// `user_start` on. They are not copied, and stay where they are.
+pub fn write_around(format: Format, header: Header, len: usize, out: &mut [u8]) -> Written
+    ensures answer { λ r. ⌜ r ≡ answerBy (verdictOf format header (userIn format header len (now (out .entry)))) (telegramOf format header (userIn format header len (now (out .entry)))) (length (now (out .entry))) ⌝ }
+    ensures bytes { λ _. ⌜ now (out .exit) ≡ heldBy (verdictOf format header (userIn format header len (now (out .entry)))) (telegramOf format header (userIn format header len (now (out .entry)))) (now (out .entry)) ⌝ }
+{
+    if !writable(format, header, len) {
+        return Written::Refused(12);
+    }
+    if out.len() < user_start(format, header) + len + 2 {
+        return Written::Refused(11);
+    }
+    Written::Stored(put_around(format, header, len, out))
 }
 
 // Writes a token.

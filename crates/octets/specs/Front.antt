@@ -3,8 +3,8 @@ use Prim.Native.Nat.{ℕ, _+_, _-_, _≤_, _<_}
 use mathlib.Core.Path.{_≡_, refl, sym, ap, _∙_, subst}
 use mathlib.Core.Bool.{true}
 use mathlib.Core.List.{List, _++_, append-assoc, append-nil}
-use lib.ListN.{length, take, drop, length-append, length-drop}
-use lib.Seq.{sets, sets-eq, take-append-seam, drop-append-seam, take-length, drop-length, drop-drop}
+use lib.ListN.{length, take, drop, length-append, length-drop, take-append-drop}
+use lib.Seq.{sets, sets-eq, length-take-le, take-append-seam, drop-append-seam, take-length, drop-length, drop-at, drop-drop}
 use lib.Dec.{leb}
 use borrow.Rule.Slice.PartMut.{midOf, putMid}
 use native.Mathlib.Omega.{arith}
@@ -146,6 +146,19 @@ module _ {p l a : List ℕ} {n : ℕ} (f : AtFront p l a n) where
       let e : after ≡ p ++ q ++ drop (n + length q) a = rw (← front) (simp fits at b) in
       subst (AtFront (p ++ q) l after) (sym (simp fits at c)) (behind q e)
 
+  -- what is lent from n on is still l's
+  pub lent-rest : midOf n (length a - n) a ≡ drop (length p) l
+  lent-rest = lent n a ∙ rest
+
+  -- the k bytes behind p that stand as they were in l, counted with p
+  pub kept : (k : ℕ) → length p + k ≤ length l → AtFront (p ++ take k (drop (length p) l)) l a (n + k)
+  kept k h =
+      let r : List ℕ = drop (length p) l in
+      let q : List ℕ = take k r in
+      let size : length q ≡ k = length-take-le k r (omega (arith, length-drop (length p) l)) in
+      let same : p ++ r ≡ p ++ q ++ drop (n + length q) a = rw (size, ← drop-drop k n a, rest, append-assoc, take-append-drop k r) in
+      subst (AtFront (p ++ q) l a) (ap (λ (j : ℕ). n + j) size) (behind q (f .bytes ∙ same))
+
 -- all of q stored behind the first n bytes
 pub all-behind : (n : ℕ) (l : List ℕ) {q m : List ℕ} {count : ℕ} → n + length q ≤ length l → AtFront q (midOf n (length l - n) l) m count
     → (n + count ≡ countBehind n q l) × (putMid n (length l - n) l m ≡ heldBehind n q l)
@@ -154,3 +167,22 @@ all-behind n l {q} {m} h g = (
   simp (le-leb _ _ h) (ap (λ (k : ℕ). n + k) (g .counted)),
   simp (le-leb _ _ h) (back n l m ∙ rw (g .bytes, lent n l, drop-drop, append-assoc)),
 )
+
+-- past q nothing changed
+past : (k : ℕ) (q l : List ℕ) → k ≤ length l → drop (k + length q) (take k l ++ q ++ drop (k + length q) l) ≡ drop (k + length q) l
+past k q l h =
+    let size : length (take k l) ≡ k = length-take-le k l h in
+    drop-at (take k l ++ q) (drop (k + length q) l) (k + length q) (rw (length-append, size))
+
+-- p stored over a slice in which q was stored before, all of it within p
+pub covered : (k : ℕ) (q l : List ℕ) {p m after : List ℕ} {count : ℕ} → k + length q ≤ length l → k + length q ≤ length p
+    → m ≡ heldBehind k q l → AtFront p m after count → AtFront p l after count
+unfolding heldBehind
+covered k q l {p} {m} h w e f =
+    let i : ℕ = k + length q in
+    let j : ℕ = length p - i in
+    let split : length p ≡ i + j = omega arith in
+    let held : m ≡ take k l ++ q ++ drop i l = simp (le-leb _ _ h) at e in
+    let same : drop i m ≡ drop i l = ap (drop i) held ∙ past k q l (omega arith) in
+    let rest : drop (length p) m ≡ drop (length p) l = rw (split, ← drop-drop j i m, ← drop-drop j i l, same) in
+    record { counted = f .counted; bytes = f .bytes ∙ ap (λ (r : List ℕ). p ++ r) rest }

@@ -2,11 +2,11 @@
 use mathlib.Core.Path.{_≡_, refl}
 use mathlib.Core.Bool.{Bool, true, false, not}
 use mathlib.Core.List.{List}
-use Prim.Native.Nat.{ℕ, _+_, _≤_}
+use Prim.Native.Nat.{ℕ, _+_, _≤_, _<_}
 use native.Mathlib.Omega.{arith}
 use lib.ListN.{length, length-append}
 use lib.Dec.{eqb, leb}
-use borrow.Author.Tests.{leb-true, eqb-true, not-true}
+use borrow.Author.Tests.{leb-true, eqb-true, lt-leb, ne-eqb, not-true}
 use Rattle.octets.specs.Choice.{pick, _and_, and-left, and-right}
 use Rattle.octets.specs.Front.{fine, fault}
 use Rattle.octets.specs.Fixed.{fault-fine}
@@ -92,6 +92,11 @@ pub pdu-small : (f : Format) (pdu : ℕ) → goodLength f pdu ≡ true → pdu �
 pdu-small Sd1 pdu e = omega (arith, eqb-true pdu 0 e)
 pdu-small Sd2 pdu e = leb-true pdu 246 (and-right (not (eqb pdu 0)) (leb pdu 246) e)
 pdu-small Sd3 pdu e = omega (arith, eqb-true pdu 8 e)
+
+pub pdu-large : (f : Format) (pdu : ℕ) → 246 < pdu → goodLength f pdu ≡ false
+pdu-large Sd1 pdu e = ne-eqb pdu 0 (λ z. omega arith)
+pdu-large Sd2 pdu e = simp (ne-eqb pdu 0 (λ z. omega arith), lt-leb pdu 246 e)
+pdu-large Sd3 pdu e = ne-eqb pdu 8 (λ z. omega arith)
 
 module _ (h : Header) (user : List ℕ) where
   pub core-length : length (coreOf h user) ≡ pduLength h user + 3
