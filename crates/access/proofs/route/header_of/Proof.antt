@@ -1,0 +1,83 @@
+-- `access::route::header_of` meets its contract: each kind has its line.
+use mathlib.Core.Path.{sym, _∙_}
+use Rattle.access.specs.Route.{headerOf}
+use borrow.Author.Needs.{needs}
+use Rattle.access.proofs.route.header_of.Statement.{statement}
+use Rattle.access.proofs.route.header_of.Tie as tie
+
+points-of-requires : tie.Need-points-of-requires
+points-of-requires c κs = search needs
+
+kind-of-requires : tie.Need-kind-of-requires
+kind-of-requires c κs = search needs
+
+enum-told : tie.Need-enum-told
+enum-told c = search needs
+
+header-with-requires : tie.Need-header-with-requires
+header-with-requires c κs = search needs
+
+enum-told-2 : tie.Need-enum-told-2
+enum-told-2 c = search needs
+
+header-with-requires-2 : tie.Need-header-with-requires-2
+header-with-requires-2 c κs = search needs
+
+enum-told-3 : tie.Need-enum-told-3
+enum-told-3 c = search needs
+
+header-with-requires-3 : tie.Need-header-with-requires-3
+header-with-requires-3 c κs = search needs
+
+enum-told-4 : tie.Need-enum-told-4
+enum-told-4 c = search needs
+
+header-with-requires-4 : tie.Need-header-with-requires-4
+header-with-requires-4 c κs = search needs
+
+returns : tie.Need-returns
+unfolding headerOf
+returns c =
+    let t = c .before in
+    let k = t .before .before in
+    simp (sym (k .before .points-of .ensures), sym (k .kind-of .ensures) ∙ t .enum-told .given .1) (c .header-with .ensures)
+
+returns-2 : tie.Need-returns-2
+unfolding headerOf
+returns-2 c =
+    let t = c .before in
+    let k = t .before .before in
+    simp (sym (k .before .points-of .ensures), sym (k .kind-of .ensures) ∙ t .enum-told2 .given .1) (c .header-with2 .ensures)
+
+returns-3 : tie.Need-returns-3
+unfolding headerOf
+returns-3 c =
+    let t = c .before in
+    let k = t .before .before in
+    simp (sym (k .before .points-of .ensures), sym (k .kind-of .ensures) ∙ t .enum-told3 .given .1) (c .header-with3 .ensures)
+
+returns-4 : tie.Need-returns-4
+unfolding headerOf
+returns-4 c =
+    let t = c .before in
+    let k = t .before .before in
+    simp (sym (k .before .points-of .ensures), sym (k .kind-of .ensures) ∙ t .enum-told4 .given .1) (c .header-with4 .ensures)
+
+pub header-of-spec : {M : Type 1} → statement M
+header-of-spec =
+    tie.close
+    (tie.spec
+    points-of-requires
+    kind-of-requires
+    enum-told
+    header-with-requires
+    enum-told-2
+    header-with-requires-2
+    enum-told-3
+    header-with-requires-3
+    enum-told-4
+    header-with-requires-4
+    returns
+    returns-2
+    returns-3
+    returns-4)

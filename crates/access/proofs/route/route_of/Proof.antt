@@ -1,0 +1,94 @@
+-- `access::route::route_of` meets its contract: each kind has its line.
+use mathlib.Core.Path.{sym, ap, _∙_}
+use Rattle.access.specs.Route.{callRoute, commandRoute, answerRoute, routeBy, routeOf}
+use Rattle.access.specs.declared.route.Kind.{Kind}
+use borrow.Author.Needs.{needs}
+use Rattle.access.proofs.route.route_of.Statement.{statement}
+use Rattle.access.proofs.route.route_of.Tie as tie
+
+kind-of-requires : tie.Need-kind-of-requires
+kind-of-requires c κs = search needs
+
+enum-told : tie.Need-enum-told
+enum-told c = search needs
+
+named-by-requires : tie.Need-named-by-requires
+named-by-requires c κs = search needs
+
+call-route-requires : tie.Need-call-route-requires
+call-route-requires c κs = search needs
+
+enum-told-2 : tie.Need-enum-told-2
+enum-told-2 c = search needs
+
+named-by-requires-2 : tie.Need-named-by-requires-2
+named-by-requires-2 c κs = search needs
+
+command-route-requires : tie.Need-command-route-requires
+command-route-requires c κs = search needs
+
+enum-told-3 : tie.Need-enum-told-3
+enum-told-3 c = search needs
+
+named-by-requires-3 : tie.Need-named-by-requires-3
+named-by-requires-3 c κs = search needs
+
+answer-route-requires : tie.Need-answer-route-requires
+answer-route-requires c κs = search needs
+
+enum-told-4 : tie.Need-enum-told-4
+enum-told-4 c = search needs
+
+returns : tie.Need-returns
+unfolding routeOf
+returns c =
+    let t = c .before .before in
+    let k = t .before .before in
+    let h = k .before .args .header in
+    c .call-route .ensures ∙ ap callRoute (c .before .named-by .ensures)
+    ∙ sym (ap (λ (x : Kind). routeBy x (h .dsap) (h .ssap)) (sym (k .kind-of .ensures) ∙ t .enum-told .given .1))
+
+returns-2 : tie.Need-returns-2
+unfolding routeOf
+returns-2 c =
+    let t = c .before .before in
+    let k = t .before .before in
+    let h = k .before .args .header in
+    c .command-route .ensures ∙ ap commandRoute (c .before .named-by2 .ensures)
+    ∙ sym (ap (λ (x : Kind). routeBy x (h .dsap) (h .ssap)) (sym (k .kind-of .ensures) ∙ t .enum-told2 .given .1))
+
+returns-3 : tie.Need-returns-3
+unfolding routeOf
+returns-3 c =
+    let t = c .before .before in
+    let k = t .before .before in
+    let h = k .before .args .header in
+    c .answer-route .ensures ∙ ap answerRoute (c .before .named-by3 .ensures)
+    ∙ sym (ap (λ (x : Kind). routeBy x (h .dsap) (h .ssap)) (sym (k .kind-of .ensures) ∙ t .enum-told3 .given .1))
+
+returns-4 : tie.Need-returns-4
+unfolding routeOf
+returns-4 c =
+    let k = c .before .before in
+    let h = k .before .args .header in
+    sym (ap (λ (x : Kind). routeBy x (h .dsap) (h .ssap)) (sym (k .kind-of .ensures) ∙ c .enum-told4 .given .1))
+
+pub route-of-spec : {M : Type 1} → statement M
+route-of-spec =
+    tie.close
+    (tie.spec
+    kind-of-requires
+    enum-told
+    named-by-requires
+    call-route-requires
+    enum-told-2
+    named-by-requires-2
+    command-route-requires
+    enum-told-3
+    named-by-requires-3
+    answer-route-requires
+    enum-told-4
+    returns
+    returns-2
+    returns-3
+    returns-4)
