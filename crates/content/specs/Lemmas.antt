@@ -1,0 +1,4 @@
+pub mod Lengths
+pub mod Inside
+pub mod Back
+pub mod Again
