@@ -1,0 +1,5 @@
+pub mod Parts
+pub mod Placed
+pub mod Verdict
+pub mod Back
+pub mod Again

@@ -1,0 +1,5 @@
+pub mod Reading
+pub mod Writing
+pub mod Lemmas
+pub mod Laws
+pub mod Worked
