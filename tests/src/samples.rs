@@ -11,8 +11,11 @@ pub mod configuration;
 pub mod control;
 pub mod diagnosis;
 pub mod parameters;
+pub mod service_outcomes;
+pub mod service_pairs;
 pub mod service_telegrams;
 pub mod services;
+pub mod shown;
 pub mod typed;
 pub mod writers;
 
@@ -231,7 +234,8 @@ fn body(random: &mut Random, pdu_length: usize, saps: Saps) -> Vec<u8> {
     body
 }
 
-fn sd2_around(body: &[u8]) -> Vec<u8> {
+/// The SD2 of these bytes, which are those from DA through the last PDU byte.
+pub fn sd2_around(body: &[u8]) -> Vec<u8> {
     let le = u8::try_from(body.len()).expect("LE is one byte");
     closed(vec![SD2, le, le, SD2], body)
 }

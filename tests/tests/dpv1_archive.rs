@@ -5,16 +5,22 @@
 #![deny(unsafe_code)]
 
 mod archive;
+mod dpv1_fields;
+mod memory;
 mod tally;
 
 use archive::Outcome::{Accepted, Refused};
 use archive::{inputs, pairs, Outcome, CASES};
+use dpv1_fields::{answer_of, call_of, of_answer, of_call};
+use dpv1_fields::{looked_at_in_answer, looked_at_in_call};
+use dpv1_fields::{ALARM_ACK, IDLE, POLL, READ, TRANSPORT, WRITE};
+use dpv1_fields::{NEGATIVE_ALARM_ACK, NEGATIVE_READ, NEGATIVE_TRANSPORT, NEGATIVE_WRITE};
+use memory::{any_room, Lent, Written, MOST_ROOM};
 use rabtunex_tests::random::Random;
-use rabtunex_tests::reference::acyclic::{self, Alarm, Answer, Call, CallError, Failed};
+use rabtunex_tests::reference::acyclic;
 use rabtunex_tests::reference::refusal;
 use rabtunex_tests::reference::service_text::Service;
 use rabtunex_tests::samples::{acyclic as samples, acyclic_fields};
-use std::array;
 use tally::Tally;
 
 /// The library's functions for the data of DPV1, `include/rabtunex.h`.
@@ -84,18 +90,6 @@ const NUMBER: usize = 0;
 const START: usize = 4;
 const LENGTH: usize = 5;
 
-/// The function numbers; a poll has none, and 0 stands for it.
-const POLL: u8 = 0x00;
-const IDLE: u8 = 0x48;
-const TRANSPORT: u8 = 0x51;
-const ALARM_ACK: u8 = 0x5C;
-const READ: u8 = 0x5E;
-const WRITE: u8 = 0x5F;
-const NEGATIVE_TRANSPORT: u8 = 0xD1;
-const NEGATIVE_ALARM_ACK: u8 = 0xDC;
-const NEGATIVE_READ: u8 = 0xDE;
-const NEGATIVE_WRITE: u8 = 0xDF;
-
 /// The numbers that are accepted somewhere, without the poll's.
 const NUMBERS: [u8; 9] = [
     IDLE,
@@ -117,45 +111,6 @@ const NEGATIVE: [u8; 4] = [
 
 /// The longest call or answer.
 const LONGEST: usize = 244;
-/// The most room that is lent to a seeded writing.
-const MOST_ROOM: usize = 300;
-/// Bytes before and after what is lent, which are not lent: as many as the
-/// longest, which may be stored there by mistake.
-const MARGIN: usize = LONGEST;
-/// The same for fields, which are few.
-const BESIDE: usize = 8;
-/// What stands in the count before a writing, and beside it.
-const UNSTORED: [usize; 3] = [usize::MAX - 2, usize::MAX - 1, usize::MAX];
-
-/// What stands in memory before a call: bytes next to each other are different,
-/// since one may be stored that stood there before.
-fn untouched(place: usize) -> u8 {
-    0xA5 ^ place as u8
-}
-
-/// Lent fields, with a margin on either side.
-#[derive(Clone, Copy, Debug, PartialEq, Eq)]
-#[repr(C)]
-struct Lent {
-    before: [u8; BESIDE],
-    fields: Fields,
-    after: [u8; BESIDE],
-}
-
-impl Lent {
-    fn untouched() -> Self {
-        Lent::holding(array::from_fn(|place| untouched(BESIDE + place)))
-    }
-
-    fn holding(fields: Fields) -> Self {
-        Lent {
-            before: array::from_fn(untouched),
-            fields,
-            after: array::from_fn(|place| untouched(BESIDE + fields.len() + place)),
-        }
-    }
-}
-
 /// Which way the data goes.
 #[derive(Clone, Copy, Debug, PartialEq, Eq)]
 enum Way {
@@ -210,13 +165,14 @@ impl Way {
     }
 
     fn write_by_reference(self, fields: &Fields, data: &[u8], out: &mut [u8]) -> Result<usize, u8> {
+        let [number, a, b, c, _, _] = *fields;
         match self {
             Way::Call => {
-                let call = call_of(fields).ok_or(refusal::ACYCLIC_CODE)?;
+                let call = call_of([number, a, b, c]).ok_or(refusal::ACYCLIC_CODE)?;
                 acyclic::write_call(&call, data, out)
             }
             Way::Answer => {
-                let answer = answer_of(fields).ok_or(refusal::ACYCLIC_CODE)?;
+                let answer = answer_of([number, a, b, c]).ok_or(refusal::ACYCLIC_CODE)?;
                 acyclic::write_answer(&answer, data, out)
             }
         }
@@ -225,10 +181,9 @@ impl Way {
     /// How many fields are looked at in writing: those that the number has, and
     /// never the place of the data.
     fn looked_at(self, number: u8) -> usize {
-        match (self, number) {
-            (Way::Call, POLL) | (_, IDLE) => 1,
-            (_, TRANSPORT) | (Way::Call, WRITE) | (Way::Answer, READ) => 3,
-            _ => 4,
+        match self {
+            Way::Call => looked_at_in_call(number),
+            Way::Answer => looked_at_in_answer(number),
         }
     }
 
@@ -240,109 +195,6 @@ impl Way {
                 .to_vec(),
             Way::Answer => NUMBERS.map(accepted).to_vec(),
         }
-    }
-}
-
-/// The number of a call and the three bytes that depend on it.
-fn of_call(call: &Call) -> [u8; 4] {
-    match *call {
-        Call::Poll => [POLL, 0, 0, 0],
-        Call::Read {
-            slot,
-            index,
-            length,
-        } => [READ, slot, index, length],
-        Call::Write { slot, index } => [WRITE, slot, index, 0],
-        Call::AlarmAck(alarm) => of_alarm(alarm),
-        Call::Idle => [IDLE, 0, 0, 0],
-        Call::Transport { slot, index } => [TRANSPORT, slot, index, 0],
-    }
-}
-
-/// The number of an answer and the three bytes that depend on it.
-fn of_answer(answer: &Answer) -> [u8; 4] {
-    match *answer {
-        Answer::Read { slot, index } => [READ, slot, index, 0],
-        Answer::Write {
-            slot,
-            index,
-            length,
-        } => [WRITE, slot, index, length],
-        Answer::AlarmAck(alarm) => of_alarm(alarm),
-        Answer::Idle => [IDLE, 0, 0, 0],
-        Answer::Transport { slot, index } => [TRANSPORT, slot, index, 0],
-        Answer::Negative { failed, error } => {
-            let number = match failed {
-                Failed::Read => NEGATIVE_READ,
-                Failed::Write => NEGATIVE_WRITE,
-                Failed::AlarmAck => NEGATIVE_ALARM_ACK,
-                Failed::Transport => NEGATIVE_TRANSPORT,
-            };
-            [number, error.decode, error.code1, error.code2]
-        }
-    }
-}
-
-fn of_alarm(alarm: Alarm) -> [u8; 4] {
-    [ALARM_ACK, alarm.slot, alarm.kind, alarm.specifier]
-}
-
-/// The call to write for fields, right or wrong; none when calls do not have the
-/// number.
-fn call_of(fields: &Fields) -> Option<Call> {
-    let [number, slot, index, length, _, _] = *fields;
-    match number {
-        POLL => Some(Call::Poll),
-        IDLE => Some(Call::Idle),
-        TRANSPORT => Some(Call::Transport { slot, index }),
-        ALARM_ACK => Some(Call::AlarmAck(alarm_of(fields))),
-        READ => Some(Call::Read {
-            slot,
-            index,
-            length,
-        }),
-        WRITE => Some(Call::Write { slot, index }),
-        _ => None,
-    }
-}
-
-/// The answer to write for fields, right or wrong; none when answers do not have
-/// the number.
-fn answer_of(fields: &Fields) -> Option<Answer> {
-    let [number, slot, index, length, _, _] = *fields;
-    let failed = match number {
-        IDLE => return Some(Answer::Idle),
-        TRANSPORT => return Some(Answer::Transport { slot, index }),
-        ALARM_ACK => return Some(Answer::AlarmAck(alarm_of(fields))),
-        READ => return Some(Answer::Read { slot, index }),
-        WRITE => {
-            return Some(Answer::Write {
-                slot,
-                index,
-                length,
-            })
-        }
-        NEGATIVE_TRANSPORT => Failed::Transport,
-        NEGATIVE_ALARM_ACK => Failed::AlarmAck,
-        NEGATIVE_READ => Failed::Read,
-        NEGATIVE_WRITE => Failed::Write,
-        _ => return None,
-    };
-    let [_, decode, code1, code2, _, _] = *fields;
-    let error = CallError {
-        decode,
-        code1,
-        code2,
-    };
-    Some(Answer::Negative { failed, error })
-}
-
-fn alarm_of(fields: &Fields) -> Alarm {
-    let [_, slot, kind, specifier, _, _] = *fields;
-    Alarm {
-        slot,
-        kind,
-        specifier,
     }
 }
 
@@ -386,50 +238,20 @@ fn check_reading(way: Way, bytes: &[u8]) -> Outcome {
 fn check_writing_back(way: Way, fields: &Fields, bytes: &[u8]) {
     let start = usize::from(fields[START]);
     let data = &bytes[start..][..usize::from(fields[LENGTH])];
-    let written = Written::by_library(way, fields, data, bytes.len());
+    let written = written_by_library(way, fields, data, bytes.len());
     let expected = Written::bytes(bytes, bytes.len());
     assert_eq!(written, expected, "{way:?} {bytes:02X?}");
 }
 
-/// All that a writing may have changed.
-#[derive(Debug, PartialEq, Eq)]
-struct Written {
-    number: u8,
-    /// The count, and a number on either side that is not lent.
-    stored: [usize; 3],
-    /// The room, with a margin on either side.
-    memory: Vec<u8>,
-}
-
-impl Written {
-    /// Nothing, but for the number that was answered.
-    fn nothing(number: u8, room: usize) -> Self {
-        Written {
-            number,
-            stored: UNSTORED,
-            memory: (0..MARGIN + room + MARGIN).map(untouched).collect(),
-        }
-    }
-
-    /// These bytes, their count and 0.
-    fn bytes(bytes: &[u8], room: usize) -> Self {
-        let mut written = Written::nothing(0, room);
-        written.stored[1] = bytes.len();
-        written.memory[MARGIN..][..bytes.len()].copy_from_slice(bytes);
-        written
-    }
-
-    fn by_library(way: Way, fields: &Fields, data: &[u8], room: usize) -> Self {
-        let mut written = Written::nothing(0, room);
-        let out = &mut written.memory[MARGIN..][..room];
-        written.number = way.write_by_library(fields, data, out, &mut written.stored[1]);
-        written
-    }
+fn written_by_library(way: Way, fields: &Fields, data: &[u8], room: usize) -> Written {
+    Written::by(room, |out, stored| {
+        way.write_by_library(fields, data, out, stored)
+    })
 }
 
 /// Writes through both, and reads back what was accepted.
 fn check_writing(way: Way, fields: &Fields, data: &[u8], room: usize) -> Outcome {
-    let written = Written::by_library(way, fields, data, room);
+    let written = written_by_library(way, fields, data, room);
     let mut out = vec![0; room];
     let outcome = way.write_by_reference(fields, data, &mut out);
     let expected = match outcome {
@@ -526,7 +348,8 @@ fn check_seeded_writing(seed: u64, way: Way, mut tally: Tally<Outcome>) {
     let lent = random.bytes(300);
     for _ in 0..CASES {
         let (fields, data) = any_fields(random, way, &lent);
-        let room = any_room(random, way, &fields, data);
+        let needed = way.write_by_reference(&fields, data, &mut [0; LONGEST]);
+        let room = any_room(random, needed.unwrap_or(LONGEST));
         tally.add(check_writing(way, &fields, data, room));
     }
     let refused = [11, 20, 21, 28].map(Refused);
@@ -556,14 +379,6 @@ fn any_fields<'a>(random: &mut Random, way: Way, lent: &'a [u8]) -> (Fields, &'a
     let mut fields = [number, a, b, c, 0, 0];
     random.fill(&mut fields[way.looked_at(number)..]);
     (fields, data)
-}
-
-/// No room, one byte too little, just enough, more, or any.
-fn any_room(random: &mut Random, way: Way, fields: &Fields, data: &[u8]) -> usize {
-    let needed = way.write_by_reference(fields, data, &mut [0; LONGEST]);
-    let needed = needed.unwrap_or(LONGEST);
-    let any = random.between(0, MOST_ROOM);
-    *random.pick(&[0, needed.saturating_sub(1), needed, needed + 1, any])
 }
 
 /// What follows every first byte: five have three bytes, and in three the third is

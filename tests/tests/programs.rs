@@ -1,5 +1,5 @@
 //! The library's programs and the reference on the same input: the show program
-//! prints the reference's line, and the files that the vectors program is run on
+//! prints the reference's lines, and the files that the vectors program is run on
 //! and held to are the reference's.
 
 #![forbid(unsafe_code)]
@@ -7,8 +7,9 @@
 mod repository;
 
 use rabtunex_tests::random::Random;
-use rabtunex_tests::reference::text;
-use rabtunex_tests::samples::{self, Saps};
+use rabtunex_tests::reference::parameters::Mode;
+use rabtunex_tests::reference::{show_text, text};
+use rabtunex_tests::samples::{self, service_telegrams, shown as words, Saps};
 use repository::root;
 use std::fs;
 use std::io::{ErrorKind, Write};
@@ -16,6 +17,9 @@ use std::process::{Command, Stdio};
 use std::sync::Once;
 
 const SAMPLES_OF_EACH_KIND: usize = 40;
+/// Service telegrams of any form, and those with each kind of damage.
+const VALID_SERVICES: usize = 120;
+const SERVICES_OF_EACH_DAMAGE: usize = 6;
 
 /// One sample of a kind.
 type Make = fn(&mut Random) -> Vec<u8>;
@@ -79,7 +83,7 @@ fn run_show(bytes: &[u8]) -> String {
 }
 
 fn check_shown(name: &str, bytes: &[u8]) {
-    let expected = text::line(bytes) + "\n";
+    let expected = show_text::lines(bytes);
     assert_eq!(shown(bytes), expected, "{name}: {bytes:02X?}");
 }
 
@@ -123,6 +127,59 @@ fn seeded_samples_are_shown() {
     }
     let kinds = KINDS.len();
     println!("seeded samples shown: {kinds} kinds of {SAMPLES_OF_EACH_KIND}");
+}
+
+/// What document 01 says of its rows for a diagnosis and for a configuration.
+#[test]
+fn worked_rows_of_services_are_shown() {
+    let rows = service_telegrams::worked_rows();
+    for bytes in &rows {
+        check_shown("worked row as an answer", bytes);
+    }
+    let [diagnosis, configuration] = [&rows[0], &rows[1]].map(|bytes| shown(bytes));
+    let channel = "channel block, module 2, input channel 3, bit, wire break";
+    assert_eq!(diagnosis.lines().last(), Some(channel));
+    let totals = "3 modules, 36 in, 20 out";
+    assert_eq!(configuration.lines().nth(2), Some(totals));
+}
+
+#[test]
+fn every_word_is_shown() {
+    let telegrams = words::every_word();
+    for bytes in &telegrams {
+        check_shown("every word", bytes);
+    }
+    println!("telegrams with every word shown: {}", telegrams.len());
+}
+
+/// Every form in each format and each kind of damage, then more of any form.
+#[test]
+fn seeded_service_telegrams_are_shown() {
+    let mut count = 0;
+    let mut check = |name, bytes: &[u8]| {
+        check_shown(name, bytes);
+        count += 1;
+    };
+    for (mode, group) in service_telegrams::groups() {
+        if mode == Mode::Dpv1 {
+            group
+                .inputs
+                .iter()
+                .for_each(|bytes| check(group.name, bytes));
+        }
+    }
+    let random = &mut Random::new(2032);
+    for _ in 0..VALID_SERVICES {
+        let bytes = service_telegrams::any_valid(random, Mode::Dpv1);
+        check("valid", &bytes);
+    }
+    for (name, make) in service_telegrams::DAMAGES {
+        for _ in 0..SERVICES_OF_EACH_DAMAGE {
+            check(name, &make(random, Mode::Dpv1));
+        }
+    }
+    assert!(count >= 300, "only {count} telegrams");
+    println!("seeded service telegrams shown: {count}");
 }
 
 #[test]

@@ -3,17 +3,18 @@
 
 #![forbid(unsafe_code)]
 
+mod numbers;
 mod repository;
 mod vectors;
 
+use numbers::Numbers;
 use rabtunex_tests::random::Random;
 use rabtunex_tests::reference::parameters::Mode;
 use rabtunex_tests::reference::service_text::Service;
-use rabtunex_tests::reference::text;
-use rabtunex_tests::samples;
+use rabtunex_tests::reference::{service_telegram_text, text};
 use rabtunex_tests::samples::services::{self, Source};
+use rabtunex_tests::samples::{self, parameters::MODES, service_telegrams};
 use std::collections::BTreeMap;
-use vectors::Numbers;
 
 /// How many inputs each service gets at least.
 const CASES: usize = 100_000;
@@ -71,10 +72,15 @@ fn services_and_telegrams_in_turn_are_answered_alike() {
     let random = &mut Random::new(7);
     let mut vectors = String::new();
     for _ in 0..TURNS {
-        let (letter, bytes) = match random.below(Service::ALL.len() + 1) {
+        let (letter, bytes) = match random.below(Service::ALL.len() + 2) {
             0 => (text::TELEGRAMS, samples::any_valid(random)),
+            1 => {
+                let mode = *random.pick(&MODES);
+                let bytes = service_telegrams::any_valid(random, mode);
+                (service_telegram_text::letter(mode), bytes)
+            }
             place => {
-                let service = Service::ALL[place - 1];
+                let service = Service::ALL[place - 2];
                 (service.letter(), services::any_valid(random, service))
             }
         };

@@ -3,16 +3,17 @@
 
 #![forbid(unsafe_code)]
 
+mod numbers;
 mod repository;
 mod vectors;
 
+use numbers::Numbers;
 use rabtunex_tests::random::Random;
 use rabtunex_tests::reference::parameters::Mode;
 use rabtunex_tests::reference::service_text::Service;
 use rabtunex_tests::reference::text;
 use rabtunex_tests::reference::writer_text::{Writer, MALFORMED};
 use rabtunex_tests::samples::{services, writers};
-use vectors::Numbers;
 
 /// How many lines each writer gets.
 const CASES: usize = 60_000;

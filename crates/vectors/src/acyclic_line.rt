@@ -1,12 +1,12 @@
 // The answers to DPV1 calls and to DPV1 answers: the function in a word, its fields, and where its data
 // stand. The answers to the fields of each.
 use crate::answer::malformed;
-use crate::service::again;
-use crate::service::behind;
-use crate::service::refused;
-use crate::service::stored;
+use crate::outcome::again;
+use crate::outcome::behind;
+use crate::outcome::refused;
+use crate::outcome::stored;
 use crate::text::byte_field;
-use crate::text::field;
+use crate::text::place;
 use crate::text::text;
 use acyclic::Answer;
 use acyclic::AnswerReading;
@@ -14,20 +14,17 @@ use acyclic::Call;
 use acyclic::CallReading;
 use acyclic::Function;
 
-fn three(first: u8, second: u8, third: u8) {
+fn two(first: u8, second: u8) {
     byte_field(first);
     byte_field(second);
+}
+
+fn three(first: u8, second: u8, third: u8) {
+    two(first, second);
     byte_field(third);
 }
 
-fn placed(slot: u8, index: u8, start: usize, len: usize) {
-    byte_field(slot);
-    byte_field(index);
-    field(start);
-    field(len);
-}
-
-fn call_words(call: Call, start: usize, len: usize) {
+pub(crate) fn call_words(call: Call) {
     match call {
         Call::Poll => text(b" poll"),
         Call::Read {
@@ -40,7 +37,7 @@ fn call_words(call: Call, start: usize, len: usize) {
         }
         Call::Write { slot, index } => {
             text(b" write");
-            placed(slot, index, start, len);
+            two(slot, index);
         }
         Call::AlarmAck {
             slot,
@@ -53,8 +50,28 @@ fn call_words(call: Call, start: usize, len: usize) {
         Call::Idle => text(b" idle"),
         Call::Transport { slot, index } => {
             text(b" transport");
-            placed(slot, index, start, len);
+            two(slot, index);
         }
+    }
+}
+
+// Where the data stand, in a call that can have them.
+fn call_place(call: Call, start: usize, len: usize) {
+    match call {
+        Call::Poll => {}
+        Call::Read {
+            slot: _,
+            index: _,
+            length: _,
+        } => {}
+        Call::Write { slot: _, index: _ } => place(start, len),
+        Call::AlarmAck {
+            slot: _,
+            alarm: _,
+            specifier: _,
+        } => {}
+        Call::Idle => {}
+        Call::Transport { slot: _, index: _ } => place(start, len),
     }
 }
 
@@ -66,7 +83,8 @@ pub(crate) fn call_line(bytes: &[u8], out: &mut [u8]) {
         }
         CallReading::Call { call, start, len } => {
             text(b"0");
-            call_words(call, start, len);
+            call_words(call);
+            call_place(call, start, len);
             let written = acyclic::write_call(call, octets::part(bytes, start, len), out);
             again(written, out);
             text(b"\n");
@@ -83,11 +101,11 @@ fn number_of(function: Function) -> u8 {
     }
 }
 
-fn answer_words(answer: Answer, start: usize, len: usize) {
+pub(crate) fn answer_words(answer: Answer) {
     match answer {
         Answer::Read { slot, index } => {
             text(b" read");
-            placed(slot, index, start, len);
+            two(slot, index);
         }
         Answer::Write {
             slot,
@@ -108,7 +126,7 @@ fn answer_words(answer: Answer, start: usize, len: usize) {
         Answer::Idle => text(b" idle"),
         Answer::Transport { slot, index } => {
             text(b" transport");
-            placed(slot, index, start, len);
+            two(slot, index);
         }
         Answer::Negative {
             function,
@@ -123,6 +141,31 @@ fn answer_words(answer: Answer, start: usize, len: usize) {
     }
 }
 
+// Where the data stand, in an answer that can have them.
+fn answer_place(answer: Answer, start: usize, len: usize) {
+    match answer {
+        Answer::Read { slot: _, index: _ } => place(start, len),
+        Answer::Write {
+            slot: _,
+            index: _,
+            length: _,
+        } => {}
+        Answer::AlarmAck {
+            slot: _,
+            alarm: _,
+            specifier: _,
+        } => {}
+        Answer::Idle => {}
+        Answer::Transport { slot: _, index: _ } => place(start, len),
+        Answer::Negative {
+            function: _,
+            decode: _,
+            code1: _,
+            code2: _,
+        } => {}
+    }
+}
+
 pub(crate) fn answer_line(bytes: &[u8], out: &mut [u8]) {
     match acyclic::read_answer(bytes) {
         AnswerReading::Refused(refusal) => {
@@ -131,7 +174,8 @@ pub(crate) fn answer_line(bytes: &[u8], out: &mut [u8]) {
         }
         AnswerReading::Answer { answer, start, len } => {
             text(b"0");
-            answer_words(answer, start, len);
+            answer_words(answer);
+            answer_place(answer, start, len);
             let written = acyclic::write_answer(answer, octets::part(bytes, start, len), out);
             again(written, out);
             text(b"\n");

@@ -3,6 +3,7 @@
 use crate::text::byte_field;
 use crate::text::decimal;
 use crate::text::field;
+use crate::text::place;
 use crate::text::text;
 use fdl::Format;
 use fdl::Header;
@@ -17,18 +18,22 @@ fn access_point(sap: Sap) {
     }
 }
 
-fn fields(kind: u8, header: Header, start: usize, len: usize) {
-    text(b"0");
+// The kind, DA, SA and FC.
+pub(crate) fn head_fields(kind: u8, header: Header) {
     byte_field(kind);
     byte_field(header.da);
     byte_field(header.sa);
     byte_field(header.fc);
+}
+
+fn fields(kind: u8, header: Header, start: usize, len: usize) {
+    text(b"0");
+    head_fields(kind, header);
     let dsap = header.dsap;
     access_point(dsap);
     let ssap = header.ssap;
     access_point(ssap);
-    field(start);
-    field(len);
+    place(start, len);
 }
 
 // The fields of a telegram that has no more than addresses.
@@ -43,7 +48,7 @@ fn address_fields(kind: u8, da: u8, sa: u8) {
     fields(kind, header, 0, 0);
 }
 
-fn kind_of(format: Format) -> u8 {
+pub(crate) fn kind_of(format: Format) -> u8 {
     match format {
         Format::Sd1 => 2,
         Format::Sd2 => 3,

@@ -1,14 +1,15 @@
 // The answer to a configuration: its totals, the offsets of its modules, and each module with the
 // bytes that writing makes of it again. The answers to a module's fields and to a configuration's bytes.
 use crate::answer::malformed;
-use crate::service::again;
-use crate::service::behind;
-use crate::service::refused;
-use crate::service::stored;
-use crate::service::walk_refused;
+use crate::outcome::again;
+use crate::outcome::behind;
+use crate::outcome::refused;
+use crate::outcome::stored;
+use crate::outcome::walk_refused;
 use crate::text::byte_field;
 use crate::text::field;
 use crate::text::flag_field;
+use crate::text::place;
 use crate::text::text;
 use crate::text::word_field;
 
@@ -37,8 +38,7 @@ fn module(module: configuration::Module, start: usize, len: usize) {
     side(input);
     let output = module.output;
     side(output);
-    field(start);
-    field(len);
+    place(start, len);
 }
 
 fn modules_end(step: configuration::Step) {

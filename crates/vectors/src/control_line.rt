@@ -1,14 +1,20 @@
 // The answers to an address change and to a global command, and to the fields of each.
 use crate::answer::malformed;
-use crate::service::again;
-use crate::service::behind;
-use crate::service::refused;
-use crate::service::stored;
+use crate::outcome::again;
+use crate::outcome::behind;
+use crate::outcome::refused;
+use crate::outcome::stored;
 use crate::text::byte_field;
-use crate::text::field;
 use crate::text::flag_field;
+use crate::text::place;
 use crate::text::text;
 use crate::text::word_field;
+
+pub(crate) fn change_words(change: control::AddressChange) {
+    byte_field(change.address);
+    word_field(change.ident);
+    flag_field(change.locked);
+}
 
 pub(crate) fn address_line(bytes: &[u8], out: &mut [u8]) {
     match control::read_address_change(bytes) {
@@ -18,11 +24,8 @@ pub(crate) fn address_line(bytes: &[u8], out: &mut [u8]) {
         }
         control::AddressReading::Change { fields, start, len } => {
             text(b"0");
-            byte_field(fields.address);
-            word_field(fields.ident);
-            flag_field(fields.locked);
-            field(start);
-            field(len);
+            change_words(fields);
+            place(start, len);
             let written = control::write_address_change(
                 fields,
                 octets::part(bytes, start, len),
@@ -34,6 +37,11 @@ pub(crate) fn address_line(bytes: &[u8], out: &mut [u8]) {
     }
 }
 
+pub(crate) fn command_words(command: control::GlobalCommand) {
+    byte_field(command.command);
+    byte_field(command.groups);
+}
+
 pub(crate) fn command_line(bytes: &[u8], out: &mut [u8]) {
     match control::read_global_command(bytes) {
         control::CommandReading::Refused(refusal) => {
@@ -42,10 +50,8 @@ pub(crate) fn command_line(bytes: &[u8], out: &mut [u8]) {
         }
         control::CommandReading::Command { fields, start, len } => {
             text(b"0");
-            byte_field(fields.command);
-            byte_field(fields.groups);
-            field(start);
-            field(len);
+            command_words(fields);
+            place(start, len);
             let written = control::write_global_command(
                 fields,
                 octets::part(bytes, start, len),

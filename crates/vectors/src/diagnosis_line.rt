@@ -1,13 +1,14 @@
 // The answer to a diagnosis: its header, the number of its blocks, and each block. The answers to the
 // fields of a diagnosis and of each block.
 use crate::answer::malformed;
-use crate::service::again;
-use crate::service::behind;
-use crate::service::refused;
-use crate::service::stored;
-use crate::service::walk_refused;
+use crate::outcome::again;
+use crate::outcome::behind;
+use crate::outcome::refused;
+use crate::outcome::stored;
+use crate::outcome::walk_refused;
 use crate::text::byte_field;
 use crate::text::field;
+use crate::text::place;
 use crate::text::text;
 use crate::text::word_field;
 
@@ -22,8 +23,7 @@ fn block(block: diagnosis::Block) {
     match block {
         diagnosis::Block::Device { start, len } => {
             text(b" | device");
-            field(start);
-            field(len);
+            place(start, len);
         }
         diagnosis::Block::Module {
             start,
@@ -32,8 +32,7 @@ fn block(block: diagnosis::Block) {
             lowest: first,
         } => {
             text(b" | module");
-            field(start);
-            field(len);
+            place(start, len);
             field(set);
             lowest(first);
         }
@@ -72,14 +71,12 @@ fn blocks(bytes: &[u8]) {
     }
 }
 
-fn header(header: diagnosis::Header, count: usize) {
-    text(b"0");
+pub(crate) fn header_words(header: diagnosis::Header) {
     byte_field(header.status1);
     byte_field(header.status2);
     byte_field(header.status3);
     byte_field(header.master);
     word_field(header.ident);
-    field(count);
 }
 
 pub(crate) fn diagnosis_line(bytes: &[u8], out: &mut [u8]) {
@@ -90,12 +87,14 @@ pub(crate) fn diagnosis_line(bytes: &[u8], out: &mut [u8]) {
             text(b"\n");
         }
         diagnosis::Reading::Diagnosis {
-            header: found,
+            header,
             blocks: count,
         } => {
-            header(found, count);
+            text(b"0");
+            header_words(header);
+            field(count);
             blocks(bytes);
-            let written = diagnosis::write(found, behind(bytes, 6), out);
+            let written = diagnosis::write(header, behind(bytes, 6), out);
             again(written, out);
             text(b"\n");
         }

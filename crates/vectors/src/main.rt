@@ -1,14 +1,15 @@
-// Telegrams, the data of services and fields for their writers as hex text on standard input, and the
-// answer to each as a line on standard output: an independent program answers the same text, and the
-// two are compared.
+// Telegrams, also those of services, the data of services and fields for their writers as hex text on
+// standard input, and the answer to each as a line on standard output: an independent program answers
+// the same text, and the two are compared.
 mod acyclic_line;
 mod answer;
 mod configuration_line;
 mod control_line;
 mod diagnosis_line;
 mod line;
+mod outcome;
 mod parameters_line;
-mod service;
+mod service_line;
 mod subject;
 mod text;
 mod typed_line;

@@ -1,12 +1,13 @@
 // The answer to parameters: their fields, the watchdog time in milliseconds, and where the user bytes
 // stand. The answer to the fields of parameters.
 use crate::answer::malformed;
-use crate::service::again;
-use crate::service::behind;
-use crate::service::refused;
-use crate::service::stored;
+use crate::outcome::again;
+use crate::outcome::behind;
+use crate::outcome::refused;
+use crate::outcome::stored;
 use crate::text::byte_field;
 use crate::text::field;
+use crate::text::place;
 use crate::text::text;
 use crate::text::word_field;
 use octets::Mode;
@@ -26,8 +27,7 @@ fn extension(extension: parameters::Extension) {
     }
 }
 
-fn parameter_fields(fields: parameters::Parameters) {
-    text(b"0");
+pub(crate) fn parameter_words(fields: parameters::Parameters) {
     byte_field(fields.flags);
     byte_field(fields.factor1);
     byte_field(fields.factor2);
@@ -37,8 +37,6 @@ fn parameter_fields(fields: parameters::Parameters) {
     byte_field(fields.groups);
     let added = fields.extension;
     extension(added);
-    let watchdog = parameters::watchdog(fields);
-    field(watchdog.0 as usize);
 }
 
 pub(crate) fn parameters_line(bytes: &[u8], mode: Mode, out: &mut [u8]) {
@@ -48,9 +46,11 @@ pub(crate) fn parameters_line(bytes: &[u8], mode: Mode, out: &mut [u8]) {
             text(b"\n");
         }
         parameters::Reading::Parameters { fields, start, len } => {
-            parameter_fields(fields);
-            field(start);
-            field(len);
+            text(b"0");
+            parameter_words(fields);
+            let watchdog = parameters::watchdog(fields);
+            field(watchdog.0 as usize);
+            place(start, len);
             let written = parameters::write(fields, octets::part(bytes, start, len), out);
             again(written, out);
             text(b"\n");

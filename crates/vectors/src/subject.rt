@@ -17,10 +17,11 @@ use crate::diagnosis_line::device_fields;
 use crate::diagnosis_line::diagnosis_fields;
 use crate::diagnosis_line::diagnosis_line;
 use crate::diagnosis_line::map_fields;
+use crate::outcome::behind;
 use crate::parameters_line::dpv0_fields;
 use crate::parameters_line::dpv1_fields;
 use crate::parameters_line::parameters_line;
-use crate::service::behind;
+use crate::service_line::service_line;
 use crate::typed_line::typed_fields;
 use crate::typed_line::typed_line;
 use octets::Mode;
@@ -36,6 +37,9 @@ pub(crate) enum Subject {
     AcyclicCall,
     AcyclicAnswer,
     TypedValue,
+    // Whole telegrams of services, with parameters of either version.
+    Service,
+    Dpv1Service,
     // Behind a byte that says how much room the writer is lent, the fields that it is given.
     Fields(Writer),
 }
@@ -74,6 +78,8 @@ pub(crate) fn subject_of(letter: u8) -> Named {
         b'x' => Named::Is(Subject::AcyclicCall),
         b'y' => Named::Is(Subject::AcyclicAnswer),
         b'v' => Named::Is(Subject::TypedValue),
+        b's' => Named::Is(Subject::Service),
+        b'u' => Named::Is(Subject::Dpv1Service),
         _ => Named::Unknown,
     }
 }
@@ -149,6 +155,8 @@ pub(crate) fn answer_to(subject: Subject, bytes: &[u8], out: &mut [u8]) {
         Subject::AcyclicCall => call_line(bytes, out),
         Subject::AcyclicAnswer => answer_line(bytes, out),
         Subject::TypedValue => typed_line(bytes, out),
+        Subject::Service => service_line(bytes, Mode::Dpv0, out),
+        Subject::Dpv1Service => service_line(bytes, Mode::Dpv1, out),
         Subject::Fields(writer) => fields_line(writer, bytes, out),
     }
 }

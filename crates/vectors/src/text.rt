@@ -35,6 +35,12 @@ pub(crate) fn word_field(word: u16) {
     field(word as usize);
 }
 
+// Where a part of the bytes stands.
+pub(crate) fn place(start: usize, len: usize) {
+    field(start);
+    field(len);
+}
+
 fn hex_digit(value: u8) -> u8 {
     match value {
         0..=9 => b'0' + value,

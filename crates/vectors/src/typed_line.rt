@@ -1,8 +1,8 @@
 // The answers to typed values, and to the fields of one.
 use crate::answer::malformed;
-use crate::service::again;
-use crate::service::refused;
-use crate::service::stored;
+use crate::outcome::again;
+use crate::outcome::refused;
+use crate::outcome::stored;
 use crate::text::byte_field;
 use crate::text::decimal;
 use crate::text::field;

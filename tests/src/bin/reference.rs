@@ -3,8 +3,8 @@
 
 #![forbid(unsafe_code)]
 
-use rabtunex_tests::reference::text;
-use rabtunex_tests::samples::{self, services, writers, Group};
+use rabtunex_tests::reference::{service_telegram_text, show_text, text};
+use rabtunex_tests::samples::{self, service_telegrams, services, writers, Group};
 use std::io::{self, Read, Write};
 use std::process::ExitCode;
 
@@ -32,7 +32,7 @@ fn main() -> ExitCode {
 /// What a command prints, or why it cannot.
 fn run(command: &str) -> Result<String, String> {
     match command {
-        "show" => Ok(text::line(&input()?) + "\n"),
+        "show" => Ok(show_text::lines(&input()?)),
         "vectors" => answer_vectors(&input()?),
         "make-vectors" => Ok(make_vectors()),
         _ => Err(String::from(USAGE)),
@@ -55,25 +55,34 @@ fn answer_vectors(vectors: &[u8]) -> Result<String, String> {
 fn make_vectors() -> String {
     let mut vectors = String::new();
     for group in samples::groups() {
-        vectors += &format!("# {}\n", group.name);
-        vectors += &lines(&group);
+        vectors += &lines(group.name, &group);
     }
     for (service, group) in services::groups() {
-        let (letter, service) = (service.letter(), service.name());
-        vectors += &format!("={letter}\n# {service}: {}\n", group.name);
-        vectors += &lines(&group);
+        let announcement = format!("={}", service.letter());
+        vectors += &announced(&announcement, service.name(), &group);
     }
     for (writer, group) in writers::groups() {
-        let (letter, writer) = (writer.letter(), writer.name());
-        vectors += &format!(">{letter}\n# {writer}: {}\n", group.name);
-        vectors += &lines(&group);
+        let announcement = format!(">{}", writer.letter());
+        vectors += &announced(&announcement, writer.name(), &group);
+    }
+    for (mode, group) in service_telegrams::groups() {
+        let announcement = format!("={}", service_telegram_text::letter(mode));
+        vectors += &announced(&announcement, service_telegram_text::name(mode), &group);
     }
     vectors
 }
 
-fn lines(group: &Group) -> String {
+/// The lines of a group that are what the announcement says.
+fn announced(announcement: &str, name: &str, group: &Group) -> String {
+    let lines = lines(&format!("{name}: {}", group.name), group);
+    format!("{announcement}\n{lines}")
+}
+
+/// A comment and the lines of a group.
+fn lines(comment: &str, group: &Group) -> String {
     let inputs = group.inputs.iter();
-    inputs.map(|bytes| text::to_hex(bytes) + "\n").collect()
+    let lines: String = inputs.map(|bytes| text::to_hex(bytes) + "\n").collect();
+    format!("# {comment}\n{lines}")
 }
 
 #[cfg(test)]
@@ -96,6 +105,11 @@ mod tests {
         for (writer, group) in writers::groups() {
             for bytes in group.inputs {
                 expected += &(writer.answer(&bytes) + "\n");
+            }
+        }
+        for (mode, group) in service_telegrams::groups() {
+            for bytes in group.inputs {
+                expected += &(service_telegram_text::line(&bytes, mode) + "\n");
             }
         }
         assert_eq!(answers, expected);

@@ -19,9 +19,9 @@ const NEGATIVE: u8 = 0x80;
 /// The most data bytes, and the most that can be asked for or taken.
 const MOST_DATA: u8 = 240;
 /// The decode under which code 1 is judged.
-const DECODE_DP: u8 = 128;
+pub(super) const DECODE_DP: u8 = 128;
 /// The other decodes.
-const DECODE_FMS: u8 = 254;
+pub(super) const DECODE_FMS: u8 = 254;
 const DECODE_HART: u8 = 255;
 
 /// A call, without its data.
@@ -145,24 +145,33 @@ pub struct CallError {
 }
 
 impl CallError {
+    /// What kind of error it is, under decode 128: the high four bits of code 1.
+    pub fn class(self) -> u8 {
+        self.code1 >> 4
+    }
+
+    /// Which error of its class it is: the low four bits of code 1.
+    pub fn code(self) -> u8 {
+        self.code1 & 0x0F
+    }
+
     /// The decode stands left of the code, and its fault comes first.
     fn judge(self) -> Result<(), u8> {
         match self.decode {
-            DECODE_DP if is_reserved(self.code1) => Err(refusal::ACYCLIC_CODE),
+            DECODE_DP if self.is_reserved() => Err(refusal::ACYCLIC_CODE),
             DECODE_DP | DECODE_FMS | DECODE_HART => Ok(()),
             _ => Err(refusal::BITS),
         }
     }
-}
 
-/// Whether code 1 has no meaning under decode 128.
-fn is_reserved(code1: u8) -> bool {
-    let (class, code) = (code1 >> 4, code1 & 0x0F);
-    match class {
-        10 => matches!(code, 3..=7),
-        12 => matches!(code, 4..=7),
-        11 | 13..=15 => false,
-        _ => true,
+    /// Whether code 1 has no meaning under decode 128.
+    fn is_reserved(self) -> bool {
+        match self.class() {
+            10 => matches!(self.code(), 3..=7),
+            12 => matches!(self.code(), 4..=7),
+            11 | 13..=15 => false,
+            _ => true,
+        }
     }
 }
 

@@ -10,6 +10,7 @@ pub mod parameters;
 pub mod service;
 pub mod service_telegram_text;
 pub mod service_text;
+pub mod show_text;
 pub mod telegram;
 pub mod text;
 pub mod typed;

@@ -51,6 +51,25 @@ pub enum Service {
     ChkCfg,
 }
 
+impl Service {
+    /// What document 01 calls it.
+    pub fn name(self) -> &'static str {
+        match self {
+            Service::DataExchange => "Data_Exchange",
+            Service::Dpv1 => "DPV1",
+            Service::ExtUserPrm => "Ext_User_Prm",
+            Service::SetSlaveAdr => "Set_Slave_Adr",
+            Service::RdInp => "Rd_Inp",
+            Service::RdOutp => "Rd_Outp",
+            Service::GlobalControl => "Global_Control",
+            Service::GetCfg => "Get_Cfg",
+            Service::SlaveDiag => "Slave_Diag",
+            Service::SetPrm => "Set_Prm",
+            Service::ChkCfg => "Chk_Cfg",
+        }
+    }
+}
+
 /// Where a service is reached.
 #[derive(Clone, Copy, Debug, PartialEq, Eq)]
 pub struct AccessPoint {
@@ -93,6 +112,24 @@ pub enum Way {
     Call,
     /// From the slave to the master.
     Answer,
+}
+
+impl Way {
+    /// The way of a function code; a reserved one is no answer's.
+    pub fn by(fc: u8) -> Self {
+        match class(fc) {
+            Class::Bare | Class::Data => Way::Answer,
+            Class::Opening | Class::Counted | Class::Uncounted | Class::Reserved => Way::Call,
+        }
+    }
+
+    /// What to call it.
+    pub fn name(self) -> &'static str {
+        match self {
+            Way::Call => "call",
+            Way::Answer => "answer",
+        }
+    }
 }
 
 /// The fields of parameters, without the user's bytes.
@@ -245,12 +282,9 @@ pub struct ServiceTelegram<'a> {
 }
 
 impl ServiceTelegram<'_> {
-    /// Which way it goes, by its function code; a reserved code is no answer's.
+    /// Which way it goes.
     pub fn way(&self) -> Way {
-        match class(self.fc) {
-            Class::Bare | Class::Data => Way::Answer,
-            Class::Opening | Class::Counted | Class::Uncounted | Class::Reserved => Way::Call,
-        }
+        Way::by(self.fc)
     }
 }
 
@@ -553,8 +587,8 @@ mod tests {
     use crate::reference::acyclic::{Alarm, CallError, Failed};
     use crate::reference::expect;
     use crate::samples::parameters::MODES;
-    use crate::samples::service_telegrams as sample;
-    use crate::samples::{self, FUNCTION_CODES};
+    use crate::samples::service_telegrams::{self as sample, with_saps};
+    use crate::samples::{self, sd2_around as sd2, FUNCTION_CODES};
 
     /// The codes of the classes, in the order of the samples' list.
     const CALLS: &[u8] = FUNCTION_CODES.split_at(15).0;
@@ -618,16 +652,6 @@ mod tests {
     fn closed(start: &[u8], body: &[u8]) -> Vec<u8> {
         let sum: usize = body.iter().map(|byte| usize::from(*byte)).sum();
         [start, body, &[(sum % 256) as u8, 0x16]].concat()
-    }
-
-    fn sd2(body: &[u8]) -> Vec<u8> {
-        let le = body.len() as u8;
-        closed(&[0x68, le, le, 0x68], body)
-    }
-
-    /// An SD2 with both SAPs.
-    fn with_saps(fc: u8, [dsap, ssap]: [u8; 2], data: &[u8]) -> Vec<u8> {
-        sd2(&[&[0x87, 0x82, fc, dsap, ssap], data].concat())
     }
 
     /// Fields with station addresses in range.

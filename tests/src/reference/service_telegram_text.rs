@@ -5,7 +5,7 @@ use super::acyclic::{Alarm, Answer, Call};
 use super::diagnosis::Header;
 use super::fields::{SD1, SD2, SD3};
 use super::parameters::Mode;
-use super::service::{self, Content, ParameterFields, Service, ServiceTelegram, Way};
+use super::service::{self, Content, ParameterFields, ServiceTelegram};
 use super::service_text::again;
 use super::telegram::Format;
 
@@ -13,6 +13,29 @@ use super::telegram::Format;
 const LONGEST_TELEGRAM: usize = 255;
 /// FCS and ED, before which the part ends.
 const TRAILER_LENGTH: usize = 2;
+
+/// What stands after `=` in the line that announces service telegrams to read in
+/// this mode.
+pub fn letter(mode: Mode) -> &'static str {
+    match mode {
+        Mode::Dpv0 => "s",
+        Mode::Dpv1 => "u",
+    }
+}
+
+/// The mode that has this letter.
+pub fn mode_of_letter(text: &str) -> Option<Mode> {
+    let mut modes = [Mode::Dpv0, Mode::Dpv1].into_iter();
+    modes.find(|mode| letter(*mode) == text)
+}
+
+/// What to call service telegrams that are read in this mode.
+pub fn name(mode: Mode) -> &'static str {
+    match mode {
+        Mode::Dpv0 => "service telegram read as DPV0",
+        Mode::Dpv1 => "service telegram read as DPV1",
+    }
+}
 
 /// The line that answers these bytes: the refusal number, or 0 with the service,
 /// the way, the kind, DA, SA, FC, the content's fields, and the start and length
@@ -31,11 +54,8 @@ pub fn line(bytes: &[u8], mode: Mode) -> String {
         content,
         part,
     } = telegram;
-    let name = name(content.service());
-    let way = match telegram.way() {
-        Way::Call => "call",
-        Way::Answer => "answer",
-    };
+    let name = content.service().name().to_lowercase();
+    let way = telegram.way().name();
     let kind = match format {
         Format::Sd1 => SD1,
         Format::Sd2 => SD2,
@@ -51,22 +71,6 @@ fn written(telegram: &ServiceTelegram<'_>) -> Result<Vec<u8>, u8> {
     let mut out = [0; LONGEST_TELEGRAM];
     let length = service::write(telegram, &mut out)?;
     Ok(out[..length].to_vec())
-}
-
-fn name(service: Service) -> &'static str {
-    match service {
-        Service::DataExchange => "data_exchange",
-        Service::Dpv1 => "dpv1",
-        Service::ExtUserPrm => "ext_user_prm",
-        Service::SetSlaveAdr => "set_slave_adr",
-        Service::RdInp => "rd_inp",
-        Service::RdOutp => "rd_outp",
-        Service::GlobalControl => "global_control",
-        Service::GetCfg => "get_cfg",
-        Service::SlaveDiag => "slave_diag",
-        Service::SetPrm => "set_prm",
-        Service::ChkCfg => "chk_cfg",
-    }
 }
 
 /// The fields, each after a space.

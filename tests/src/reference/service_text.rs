@@ -97,15 +97,18 @@ impl Service {
 }
 
 /// What a walk over all of the data met.
-struct Walk<T> {
+pub(super) struct Walk<T> {
     /// Each item, and the position after it.
-    items: Vec<(T, usize)>,
+    pub(super) items: Vec<(T, usize)>,
     /// Why it went no further, unless it came to the end.
     refusal: Option<u8>,
 }
 
 impl<T> Walk<T> {
-    fn from(first_position: usize, step: impl Fn(usize) -> Result<Option<(T, usize)>, u8>) -> Self {
+    pub(super) fn from(
+        first_position: usize,
+        step: impl Fn(usize) -> Result<Option<(T, usize)>, u8>,
+    ) -> Self {
         let mut items = Vec::new();
         let mut position = first_position;
         let refusal = loop {

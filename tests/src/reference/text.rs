@@ -1,15 +1,18 @@
-//! Telegrams as lines of text: what the show program prints, and the vectors,
-//! in which the data of services stands too.
+//! Telegrams as lines of text: the first that the show program prints, and the
+//! vectors, in which the data of services stands too.
 //!
 //! In a vectors text every line ends with a newline. A line that starts with
 //! `#` is a comment. One that starts with `=` says by one letter what the lines
 //! after it are: `t` for telegrams, which those before any such line are too,
-//! and a service's own letter for its data. One that starts with `>` says by a
+//! `s` and `u` for telegrams to read as services in DPV0 and in DPV1, and a
+//! service's own letter for its data. One that starts with `>` says by a
 //! writer's letter that they are fields for that writer. Any other line is the
 //! bytes of one telegram, of one service's data or of one writing, two hex digits
 //! for each byte with single spaces between them, and an empty line is no bytes.
 
 use super::fields;
+use super::parameters::Mode;
+use super::service_telegram_text;
 use super::service_text::Service;
 use super::telegram::{read, Format, Telegram};
 use super::writer_text::Writer;
@@ -18,7 +21,7 @@ use std::fmt::Write;
 /// What stands after `=` in the line that announces telegrams.
 pub const TELEGRAMS: &str = "t";
 
-/// The line that the show program prints for these bytes.
+/// The first line that the show program prints for these bytes.
 pub fn line(bytes: &[u8]) -> String {
     match read(bytes) {
         Err(refusal) => format!("refused {refusal}"),
@@ -64,6 +67,7 @@ pub fn numbers(bytes: &[u8]) -> String {
 #[derive(Clone, Copy)]
 enum Kind {
     Telegrams,
+    ServiceTelegrams(Mode),
     DataOf(Service),
     FieldsFor(Writer),
 }
@@ -74,7 +78,10 @@ impl Kind {
     fn announced_by(line: &str) -> Option<Self> {
         match line.split_at_checked(1)? {
             ("=", TELEGRAMS) => Some(Kind::Telegrams),
-            ("=", letter) => Service::of_letter(letter).map(Kind::DataOf),
+            ("=", letter) => match service_telegram_text::mode_of_letter(letter) {
+                Some(mode) => Some(Kind::ServiceTelegrams(mode)),
+                None => Service::of_letter(letter).map(Kind::DataOf),
+            },
             (">", letter) => Writer::of_letter(letter).map(Kind::FieldsFor),
             _ => None,
         }
@@ -83,6 +90,7 @@ impl Kind {
     fn answer(self, bytes: &[u8]) -> String {
         match self {
             Kind::Telegrams => numbers(bytes),
+            Kind::ServiceTelegrams(mode) => service_telegram_text::line(bytes, mode),
             Kind::DataOf(service) => service.answer(bytes),
             Kind::FieldsFor(writer) => writer.answer(bytes),
         }
@@ -138,6 +146,7 @@ fn byte_from_hex(digits: &str) -> Option<u8> {
 #[cfg(test)]
 mod tests {
     use super::*;
+    use crate::samples::parameters::MODES;
 
     const SD2_BOTH_SAPS: &str = "68 08 08 68 87 82 5C 33 33 5F 01 07 32 16";
 
@@ -224,6 +233,29 @@ mod tests {
             assert_eq!(answers(&vectors), Ok(answer));
         }
         assert_eq!(answers("=d\n=t\n>d\n").as_deref(), Ok(""));
+    }
+
+    #[test]
+    fn service_telegrams_are_read_in_their_mode() {
+        // Parameters too short for DPV1, behind a telegram that carries nothing.
+        let set_prm = "68 0C 0C 68 87 82 5D 3D 3E 00 02 03 0B 00 01 00 F2 16";
+        let vectors = format!("=s\nE5\n{set_prm}\n=u\n# group\n{set_prm}\n\n=t\n{set_prm}\n");
+        let again = set_prm.to_lowercase();
+        let expected = [
+            &format!("10\n0 set_prm call 3 7 2 93 0 2 3 11 1 0 16 0 = {again}\n"),
+            "20\n1\n",
+            "0 3 7 2 93 61 62 9 7\n",
+        ];
+        assert_eq!(answers(&vectors), Ok(expected.concat()));
+        for mode in MODES {
+            let letter = service_telegram_text::letter(mode);
+            // No other kind of line has the letter.
+            assert_eq!(Service::of_letter(letter), None);
+            assert_ne!(letter, TELEGRAMS);
+            for malformed in [format!(">{letter}"), format!("={letter}{letter}")] {
+                assert_eq!(answers(&format!("{malformed}\n")), Err(1), "{malformed}");
+            }
+        }
     }
 
     #[test]

@@ -1,18 +1,19 @@
 //! Samples of whole service telegrams, the ways to damage one in one place with
 //! the telegram around it right again, and fields of such telegrams to write.
 
-use super::services;
+use super::parameters::MODES;
+use super::services::{self, Source};
 use super::{acyclic_fields, configuration, control, diagnosis, parameters};
 use super::{any_frame, any_valid as any_telegram, changed_and_mended, mostly_up_to, often_up_to};
-use super::{changed_cut_or_lengthened, closed, destination, sd2_around, station};
-use super::{EXTENSION_FLAG, FUNCTION_CODES, LONGEST_PDU, SD3_PDU};
+use super::{changed_cut_or_lengthened, closed, destination, group, mend, sd2_around, station};
+use super::{Group, EXTENSION_FLAG, FUNCTION_CODES, LONGEST_PDU, SD3_PDU};
 use crate::random::Random;
 use crate::reference::acyclic::{Answer, Call};
 use crate::reference::diagnosis::Header;
 use crate::reference::parameters::Mode;
-use crate::reference::service::{Content, ParameterFields, Service, ServiceTelegram};
+use crate::reference::service::{Content, ParameterFields, Service, ServiceTelegram, Way};
 use crate::reference::service_text::Service as Data;
-use crate::reference::telegram::{Format, SD1, SD3};
+use crate::reference::telegram::{Format, SD1, SD2, SD3};
 
 /// The most bytes of a service's data, which with its SAPs just fit.
 const LONGEST: usize = 244;
@@ -59,6 +60,13 @@ impl Carried {
             Carried::Call => CALLS,
             Carried::Command => COMMANDS,
             Carried::Answer => ANSWERS,
+        }
+    }
+
+    fn way(self) -> Way {
+        match self {
+            Carried::Call | Carried::Command => Way::Call,
+            Carried::Answer => Way::Answer,
         }
     }
 }
@@ -112,6 +120,12 @@ fn forms(mode: Mode) -> [Form; 17] {
     ]
 }
 
+/// Every service with each of its ways.
+pub fn kinds() -> [(Service, Way); 17] {
+    // The mode changes only what parameters are.
+    forms(Mode::Dpv0).map(|form| (form.service, form.carried.way()))
+}
+
 impl Form {
     /// Any of the forms.
     fn any(random: &mut Random, mode: Mode) -> Self {
@@ -154,26 +168,41 @@ impl Form {
         }
     }
 
-    /// User data damaged in one place, or too much of it, that still fits an
-    /// SD2; plain bytes beside SAPs cannot be wrong.
-    fn damaged_data(&self, random: &mut Random) -> Vec<u8> {
+    /// The most user data that fits an SD2.
+    fn most_data(&self) -> usize {
+        if self.has_saps() {
+            LONGEST
+        } else {
+            LONGEST_PDU
+        }
+    }
+
+    /// The ways to damage its user data in one place, or to have too much of it;
+    /// plain bytes beside SAPs cannot be wrong.
+    fn data_damages(&self) -> Vec<Source> {
+        let any_of = |low, short, high| {
+            move |random: &mut Random| {
+                let length = often_up_to(random, low, short, high);
+                random.bytes(length)
+            }
+        };
         match self.data {
-            UserData::Empty => {
-                let length = often_up_to(random, 1, 8, LONGEST);
-                random.bytes(length)
-            }
+            UserData::Empty => vec![Source::new("data", any_of(1, 8, LONGEST))],
+            UserData::Plain if self.has_saps() => Vec::new(),
             UserData::Plain => {
-                let length = random.between(LONGEST + 1, LONGEST_PDU);
-                random.bytes(length)
+                let make = any_of(LONGEST + 1, LONGEST_PDU, LONGEST_PDU);
+                vec![Source::new("over 244 bytes", make)]
             }
-            UserData::Of(data) => {
-                let damages = services::damages(data);
-                loop {
-                    let bytes = random.pick(&damages).sample(random);
-                    if bytes.len() <= LONGEST {
-                        return bytes;
-                    }
-                }
+            UserData::Of(data) => services::damages(data),
+        }
+    }
+
+    /// User data damaged by a source that still fits an SD2.
+    fn damaged_data(&self, random: &mut Random, source: &Source) -> Vec<u8> {
+        loop {
+            let bytes = source.sample(random);
+            if bytes.len() <= self.most_data() {
+                return bytes;
             }
         }
     }
@@ -372,7 +401,9 @@ pub fn data_damaged(random: &mut Random, mode: Mode) -> Vec<u8> {
         let is_plain = matches!(form.data, UserData::Plain);
         !(is_plain && form.has_saps())
     });
-    let data = form.damaged_data(random);
+    let damages = form.data_damages();
+    let source = random.pick(&damages);
+    let data = form.damaged_data(random, source);
     form.around(random, data).telegram(random)
 }
 
@@ -415,6 +446,151 @@ pub const DAMAGES: [(&str, Make); 10] = [
 pub fn damaged(random: &mut Random, mode: Mode) -> Vec<u8> {
     let (_, make) = *random.pick(&DAMAGES);
     make(random, mode)
+}
+
+/// The bytes of an SD2 with both SAPs, which may be above 63.
+pub fn with_saps(fc: u8, [dsap, ssap]: [u8; 2], data: &[u8]) -> Vec<u8> {
+    sd2_around(&[&[0x87, 0x82, fc, dsap, ssap], data].concat())
+}
+
+/// 100,000 service telegrams, the same at every call: valid ones of all forms and
+/// of any shape, and as many again with damage of each kind.
+pub fn seeded(mode: Mode) -> Vec<Vec<u8>> {
+    const CASES: usize = 100_000;
+    const ANY_OF_EACH_ROUND: usize = 5000;
+    let random = &mut Random::new(2031);
+    let mut telegrams = Vec::new();
+    while telegrams.len() < CASES / 2 {
+        telegrams.extend(all_forms(random, mode));
+        telegrams.extend((0..ANY_OF_EACH_ROUND).map(|_| any_valid(random, mode)));
+    }
+    telegrams.truncate(CASES / 2);
+    let damages = DAMAGES.iter().cycle().take(CASES / 2);
+    let damaged: Vec<Vec<u8>> = damages.map(|(_, make)| make(random, mode)).collect();
+    telegrams.extend(damaged);
+    telegrams
+}
+
+/// The service telegrams of the vectors: the same at every call.
+pub fn groups() -> Vec<(Mode, Group)> {
+    let random = &mut Random::new(2030);
+    let mut groups = Vec::new();
+    for mode in MODES {
+        let of_mode = groups_of(random, mode).into_iter();
+        groups.extend(of_mode.map(|group| (mode, group)));
+    }
+    groups
+}
+
+fn groups_of(random: &mut Random, mode: Mode) -> Vec<Group> {
+    const EACH: usize = 3;
+    let any = (0..2 * EACH).map(|_| any_valid(random, mode)).collect();
+    let mut groups = vec![
+        group("worked rows of document 01 as answers", worked_rows()),
+        group("valid in each format", each_format(random, mode)),
+        group("valid with each function code", each_code(random, mode)),
+        group("valid of any length", any),
+        group("user data damaged in each way", each_damage(random, mode)),
+        group("telegram damaged in each way", each_frame_damage()),
+    ];
+    for (name, make) in DAMAGES {
+        let samples = (0..EACH).map(|_| shortish(random, |random| make(random, mode)));
+        groups.push(group(name, samples.collect()));
+    }
+    groups
+}
+
+/// Document 01's rows of a diagnosis and of a configuration, as answers.
+pub fn worked_rows() -> Vec<Vec<u8>> {
+    vec![
+        with_saps(0x08, [62, 60], &diagnosis::WORKED_ROW),
+        with_saps(0x08, [62, 59], &configuration::WORKED_ROW),
+    ]
+}
+
+/// The shortest of three samples, of which one alone would often be long.
+fn shortish(random: &mut Random, make: impl Fn(&mut Random) -> Vec<u8>) -> Vec<u8> {
+    let samples = [(); 3].map(|()| make(random));
+    samples.into_iter().min_by_key(Vec::len).expect("three")
+}
+
+/// One telegram of every service and way in each format that it can have.
+fn each_format(random: &mut Random, mode: Mode) -> Vec<Vec<u8>> {
+    const SHORT: usize = 32;
+    let mut telegrams = Vec::new();
+    for form in forms(mode) {
+        let all = form.all_data(random).into_iter();
+        let mut all: Vec<Vec<u8>> = all
+            .flat_map(|data| form.around(random, data).telegrams())
+            .collect();
+        all.retain(|telegram| telegram.len() <= SHORT);
+        for start in [SD1, SD2, SD3] {
+            let of_format = all.iter().filter(|telegram| telegram[0] == start);
+            let of_format: Vec<&Vec<u8>> = of_format.collect();
+            if !of_format.is_empty() {
+                telegrams.push(random.pick(&of_format).to_vec());
+            }
+        }
+    }
+    telegrams
+}
+
+/// One telegram with every function code that carries a service, the services in
+/// turn.
+fn each_code(random: &mut Random, mode: Mode) -> Vec<Vec<u8>> {
+    let mut telegrams = Vec::new();
+    for carried in [Carried::Call, Carried::Command, Carried::Answer] {
+        let mut of_kind = forms(mode).to_vec();
+        of_kind.retain(|form| form.carried == carried);
+        for (form, fc) in of_kind.iter().cycle().zip(carried.codes()) {
+            let data = shortish(random, |random| form.any_data(random));
+            let mut parts = form.around(random, data);
+            parts.fc = *fc;
+            telegrams.push(parts.telegram(random));
+        }
+    }
+    telegrams
+}
+
+/// One telegram of every service and way with user data damaged in each way.
+fn each_damage(random: &mut Random, mode: Mode) -> Vec<Vec<u8>> {
+    let mut telegrams = Vec::new();
+    for form in forms(mode) {
+        for source in form.data_damages() {
+            let data = shortish(random, |random| form.damaged_data(random, &source));
+            telegrams.push(form.around(random, data).telegram(random));
+        }
+    }
+    telegrams
+}
+
+/// A call of Slave_Diag with each fault that is the telegram's own.
+fn each_frame_damage() -> Vec<Vec<u8>> {
+    let valid = with_saps(0x5D, [60, 62], &[]);
+    let changed = |place: usize, byte| {
+        let mut damaged = valid.clone();
+        damaged[place] = byte;
+        damaged
+    };
+    let changed_and_mended = |place, byte| {
+        let mut damaged = changed(place, byte);
+        mend(&mut damaged);
+        damaged
+    };
+    vec![
+        valid[..valid.len() - 1].to_vec(),
+        // The start byte and LE.
+        changed(0, 0x69),
+        changed(1, 0x06),
+        [valid.as_slice(), &[0x00]].concat(),
+        // The end byte and the checksum.
+        changed(10, 0x17),
+        changed(9, 0x00),
+        // SA 127, a reserved function code and a SAP above 63.
+        changed_and_mended(5, 0xFF),
+        changed_and_mended(6, 0x4C),
+        changed_and_mended(7, 0x40),
+    ]
 }
 
 /// The fields of a service telegram, with a part of its own.
@@ -611,8 +787,8 @@ fn any_parameters(random: &mut Random, mode: Mode) -> Said {
 #[cfg(test)]
 mod tests {
     use super::*;
-    use crate::reference::service::{read, write, Way};
-    use crate::samples::parameters::MODES;
+    use crate::reference::service::{read, write};
+    use crate::samples::service_outcomes::READING_REFUSALS;
     use std::collections::BTreeSet;
 
     /// The format as its place among the kinds.
@@ -742,6 +918,76 @@ mod tests {
         assert_eq!(numbers(function_code_changed), expected);
         let expected = BTreeSet::from_iter((0..=10).chain(20..=28));
         assert_eq!(numbers(damaged), expected);
+    }
+
+    /// The formats of what is accepted of each service and way, and the numbers of
+    /// the rest.
+    fn outcomes<'a>(
+        telegrams: impl Iterator<Item = &'a Vec<u8>>,
+        mode: Mode,
+    ) -> (BTreeSet<(Service, Way, u8)>, BTreeSet<u8>) {
+        let mut kinds = BTreeSet::new();
+        let mut numbers = BTreeSet::new();
+        for bytes in telegrams {
+            match read(bytes, mode) {
+                Ok(telegram) => {
+                    let service = telegram.content.service();
+                    kinds.insert((service, telegram.way(), place(telegram.format)));
+                }
+                Err(number) => {
+                    numbers.insert(number);
+                }
+            }
+        }
+        (kinds, numbers)
+    }
+
+    #[test]
+    fn seeded_ones_reach_every_outcome() {
+        for mode in MODES {
+            let telegrams = seeded(mode);
+            assert_eq!(telegrams.len(), 100_000);
+            let expected = (expected_kinds(), BTreeSet::from(READING_REFUSALS));
+            assert_eq!(outcomes(telegrams.iter(), mode), expected);
+        }
+    }
+
+    #[test]
+    fn kinds_are_every_service_and_way() {
+        let expected: BTreeSet<(Service, Way)> = expected_kinds()
+            .into_iter()
+            .map(|(service, way, _)| (service, way))
+            .collect();
+        assert_eq!(BTreeSet::from(kinds()), expected);
+    }
+
+    #[test]
+    fn faults_of_the_telegram_come_in_their_order() {
+        for mode in MODES {
+            let telegrams = each_frame_damage();
+            let numbers = telegrams.iter().map(|bytes| read(bytes, mode).err());
+            assert!(numbers.eq((1..=9).map(Some)));
+        }
+    }
+
+    #[test]
+    fn groups_reach_every_outcome() {
+        let groups = groups();
+        for mode in MODES {
+            let of_mode = groups.iter().filter(|(of, _)| *of == mode);
+            let telegrams = of_mode.clone().flat_map(|(_, group)| &group.inputs);
+            let expected = (expected_kinds(), BTreeSet::from(READING_REFUSALS));
+            assert_eq!(outcomes(telegrams, mode), expected);
+            let is_valid = |name: &str| name.starts_with("valid") || name.starts_with("worked");
+            let valid = of_mode.filter(|(_, group)| is_valid(group.name));
+            let valid = valid.flat_map(|(_, group)| &group.inputs);
+            let codes = valid.map(|bytes| read(bytes, mode).expect("valid").fc);
+            let codes: BTreeSet<u8> = codes.collect();
+            assert_eq!(
+                codes,
+                BTreeSet::from_iter([CALLS, COMMANDS, ANSWERS].concat())
+            );
+        }
     }
 
     #[test]

@@ -21,7 +21,7 @@ pub struct Source {
 }
 
 impl Source {
-    fn new(name: &'static str, make: impl Fn(&mut Random) -> Vec<u8> + 'static) -> Self {
+    pub(super) fn new(name: &'static str, make: impl Fn(&mut Random) -> Vec<u8> + 'static) -> Self {
         let make = Box::new(make);
         Source { name, make }
     }

@@ -6,15 +6,15 @@ use std::fmt::{Debug, Display};
 
 /// How often each outcome came.
 pub struct Tally<Outcome> {
-    title: &'static str,
+    title: String,
     counts: BTreeMap<Outcome, usize>,
 }
 
 impl<Outcome: Debug + Display + Ord> Tally<Outcome> {
     /// Nothing counted yet.
-    pub fn new(title: &'static str) -> Self {
+    pub fn new(title: impl Into<String>) -> Self {
         Tally {
-            title,
+            title: title.into(),
             counts: BTreeMap::new(),
         }
     }
@@ -51,9 +51,14 @@ impl<Outcome: Debug + Display + Ord> Tally<Outcome> {
     }
 
     /// Prints the counts, which must be these.
-    pub fn expect_counts<const N: usize>(&self, expected: [(Outcome, usize); N]) {
+    pub fn expect_counts(&self, expected: impl IntoIterator<Item = (Outcome, usize)>) {
         self.print();
-        assert_eq!(self.counts, BTreeMap::from(expected), "{}", self.title);
+        assert_eq!(
+            self.counts,
+            expected.into_iter().collect(),
+            "{}",
+            self.title
+        );
     }
 
     /// Prints the counts in one piece, since tests run side by side.

@@ -1,6 +1,6 @@
-// What the answers to the data of services have in common: the refusal number; or 0 and the fields,
-// and after = the bytes that writing makes of them again. What a walk finds stands between the two,
-// also where the data is refused: an item after each bar, then a point for the end, or ! and the
+// What the answers to services and to their data have in common: the refusal number; or 0 and the
+// fields, and after = the bytes that writing makes of them again. What a walk finds stands between the
+// two, also where the data is refused: an item after each bar, then a point for the end, or ! and the
 // refusal number.
 use crate::text::byte_field;
 use crate::text::decimal;

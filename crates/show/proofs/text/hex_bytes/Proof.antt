@@ -3,8 +3,8 @@
 use Prim.Native.Nat.{_-_}
 use lib.ListN.{length}
 use borrow.Author.Needs.{needs}
-use Rattle.show.proofs.hex_bytes.Statement.{statement}
-use Rattle.show.proofs.hex_bytes.Tie as tie
+use Rattle.show.proofs.text.hex_bytes.Statement.{statement}
+use Rattle.show.proofs.text.hex_bytes.Tie as tie
 
 abbrev Inv-loop : tie.InvT-loop
 Inv-loop bytes i₀ i = Unit {0}
