@@ -1,6 +1,6 @@
 /*
- * Rabtunex: PROFIBUS DP telegrams and DPV1 calls and answers, read and written; diagnosis and
- * configuration data, read.
+ * Rabtunex: PROFIBUS DP telegrams, whole service telegrams, and DPV1 calls and answers, read and
+ * written; diagnosis and configuration data, read.
  *
  * Every function takes all inputs and returns. It answers 0, or the refusal number of its
  * input's first fault (RABTUNEX_REFUSED_..), and then has stored nothing. Nothing is kept
@@ -30,6 +30,7 @@ extern "C" {
 #define RABTUNEX_REFUSED_ADDRESS 7       /* an address is out of range */
 #define RABTUNEX_REFUSED_FUNCTION_CODE 8 /* the function code is reserved */
 #define RABTUNEX_REFUSED_EXTENSION 9     /* a SAP is missing or above 63 */
+#define RABTUNEX_REFUSED_SERVICE 10      /* no service, or one that does not go that way */
 #define RABTUNEX_REFUSED_ROOM 11         /* the lent output is too small */
 #define RABTUNEX_REFUSED_FIELD 12        /* a field or position that was given is out of range */
 #define RABTUNEX_REFUSED_DATA_LENGTH 20  /* the length of the service data is wrong */
@@ -234,6 +235,85 @@ uint8_t rabtunex_write_dpv1_call(const uint8_t fields[RABTUNEX_DPV1_FIELDS], con
 /* The same of one DPV1 answer. No answer has the number of a poll. */
 uint8_t rabtunex_write_dpv1_answer(const uint8_t fields[RABTUNEX_DPV1_FIELDS], const uint8_t *data,
                                    size_t data_len, uint8_t *out, size_t out_len, size_t *stored);
+
+/* Services. The number of each is its SAP at the slave; Data_Exchange has none. */
+#define RABTUNEX_DATA_EXCHANGE 0
+#define RABTUNEX_DPV1 51
+#define RABTUNEX_EXT_USER_PRM 53
+#define RABTUNEX_SET_SLAVE_ADR 55
+#define RABTUNEX_RD_INP 56
+#define RABTUNEX_RD_OUTP 57
+#define RABTUNEX_GLOBAL_CONTROL 58
+#define RABTUNEX_GET_CFG 59
+#define RABTUNEX_SLAVE_DIAG 60
+#define RABTUNEX_SET_PRM 61
+#define RABTUNEX_CHK_CFG 62
+
+/* Ways. */
+#define RABTUNEX_CALL 0   /* from the master to the slave */
+#define RABTUNEX_ANSWER 1 /* from the slave to the master */
+
+/* Versions, by which parameters are read and written. */
+#define RABTUNEX_VERSION_DPV0 0
+#define RABTUNEX_VERSION_DPV1 1
+
+/* The fields of a service telegram: an array of RABTUNEX_SERVICE_FIELDS bytes, at these places. */
+#define RABTUNEX_SERVICE_FIELDS 18
+#define RABTUNEX_SERVICE 0       /* RABTUNEX_DATA_EXCHANGE .. RABTUNEX_CHK_CFG */
+#define RABTUNEX_WAY 1           /* RABTUNEX_CALL or RABTUNEX_ANSWER */
+#define RABTUNEX_SERVICE_KIND 2  /* RABTUNEX_SD1, RABTUNEX_SD2 or RABTUNEX_SD3 */
+#define RABTUNEX_SERVICE_DA 3    /* destination address, its low seven bits */
+#define RABTUNEX_SERVICE_SA 4    /* source address, its low seven bits */
+#define RABTUNEX_SERVICE_FC 5    /* function code */
+#define RABTUNEX_PART_START 6    /* where the part behind the fixed bytes begins in the telegram */
+#define RABTUNEX_PART_LEN 7      /* how many bytes it has */
+#define RABTUNEX_SERVICE_BYTES 8 /* from here on, the service's own fields */
+
+/* The service's own fields are the fixed bytes of its data in their order, from
+ * RABTUNEX_SERVICE_BYTES on, and the places behind them are 0:
+ *
+ *     Slave_Diag, answer  6: status 1, 2 and 3, master, ident high, ident low;
+ *                         the part is the blocks
+ *     Set_Prm             7: flags, watchdog factors 1 and 2, response time in bit times,
+ *                         ident high, ident low, groups; and in version DPV1
+ *                         3 more: DPV1 status 1, 2 and 3;
+ *                         the part is the user parameters
+ *     Set_Slave_Adr       4: address, ident high, ident low, and 1 where further changes are
+ *                         not allowed, else 0;
+ *                         the part is empty
+ *     Global_Control      2: command, groups;
+ *                         the part is empty
+ *     DPV1                4: RABTUNEX_DPV1_NUMBER and the three fields behind it, as
+ *                         rabtunex_read_dpv1_call and rabtunex_read_dpv1_answer give them;
+ *                         the part is the data
+ *
+ * All others have none: the part is all of their data, which is process data, plain bytes, a
+ * configuration, or empty. */
+
+/* Reads one service telegram, which is all of the bytes, into its fields, in a version. The part
+ * stays where it is: fields[RABTUNEX_PART_LEN] bytes from bytes + fields[RABTUNEX_PART_START]. An
+ * unknown version gives RABTUNEX_REFUSED_FIELD before all else. The telegram's own refusal comes
+ * next, then RABTUNEX_REFUSED_SERVICE, then what the service's data are refused for. */
+uint8_t rabtunex_read_service(const uint8_t *bytes, size_t bytes_len, uint8_t version,
+                              uint8_t fields[RABTUNEX_SERVICE_FIELDS]);
+
+/* Writes one service telegram from its fields and its part at the front of out, and its length to
+ * *stored. The function code decides the way, and service and way the SAPs. RABTUNEX_WAY,
+ * RABTUNEX_PART_START and RABTUNEX_PART_LEN are not looked at, nor is any field that the service
+ * does not have, so that fields that were read can be given back as they are. The last field of
+ * Set_Slave_Adr counts as 1 where it is not 0. The first fault comes first:
+ *
+ *     RABTUNEX_REFUSED_FIELD    an unknown service, kind or version; a bad telegram field or a bad
+ *                               length of the data, to which a DPV1 number that is refused below
+ *                               counts as four fixed bytes
+ *     RABTUNEX_REFUSED_SERVICE  a function code that the service does not go by
+ *     RABTUNEX_REFUSED_DPV1     a DPV1 number that no call, or no answer, has
+ *     what the service's data are refused for
+ *     RABTUNEX_REFUSED_ROOM
+ */
+uint8_t rabtunex_write_service(const uint8_t fields[RABTUNEX_SERVICE_FIELDS], uint8_t version,
+                               const uint8_t *part, size_t part_len, uint8_t *out, size_t out_len,
+                               size_t *stored);
 
 #ifdef __cplusplus
 }

@@ -5,3 +5,5 @@ pub mod Telegram
 pub mod Diagnosis
 pub mod Configuration
 pub mod Acyclic
+pub mod Service
+pub mod Laws

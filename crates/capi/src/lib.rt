@@ -3,4 +3,6 @@ mod acyclic_fields;
 mod configuration_offsets;
 mod diagnosis_fields;
 mod outcome;
+mod service_reading;
+mod service_writing;
 mod telegram;

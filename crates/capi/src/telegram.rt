@@ -13,7 +13,7 @@ use fdl::Reading;
 use fdl::Sap;
 use octets::Written;
 
-fn format_number(format: Format) -> u8
+pub(crate) fn format_number(format: Format) -> u8
     ensures { λ r. ⌜ r ≡ formatNumber format ⌝ }
 {
     match format {
@@ -122,14 +122,14 @@ fn header_of(fields: &[u8; 8]) -> Header
 }
 
 // Which telegram the first field names.
-enum Kind {
+pub(crate) enum Kind {
     Confirmation,
     Token,
     Telegram(Format),
     Unknown,
 }
 
-fn kind_of(number: u8) -> Kind
+pub(crate) fn kind_of(number: u8) -> Kind
     ensures { λ r. ⌜ r ≡ kindOf number ⌝ }
 {
     match number {

@@ -1,8 +1,10 @@
 -- `capi::acyclic_fields::rabtunex_read_dpv1_answer` meets its contract, by what is read.
-use mathlib.Core.Path.{refl, sym, _∙_}
-use Prim.Native.Nat.{_≤_}
+use mathlib.Core.Path.{refl, sym, ap, _∙_}
+use mathlib.Core.List.{List}
+use Prim.Native.Nat.{ℕ, _≤_}
 use native.Mathlib.Omega.{arith}
 use Rattle.acyclic.specs.Laws.{answer-small}
+use Rattle.capi.specs.Acyclic.{allFields}
 use borrow.Author.Needs.{needs}
 use Rattle.capi.proofs.acyclic_fields.rabtunex_read_dpv1_answer.Statement.{statement}
 use Rattle.capi.proofs.acyclic_fields.rabtunex_read_dpv1_answer.Tie as tie
@@ -22,22 +24,24 @@ read-answer-requires c κs = search needs
 enum-known-reading : tie.Need-enum-known-reading
 enum-known-reading c = search needs
 
-cast-put-answer : tie.Need-cast-put-answer
-cast-put-answer c = omega (arith, small c .0)
+answer-four-requires : tie.Need-answer-four-requires
+answer-four-requires c κs = search needs
 
-cast-put-answer-2 : tie.Need-cast-put-answer-2
-cast-put-answer-2 c = omega (arith, small c .1)
+cast-t10 : tie.Need-cast-t10
+cast-t10 c = omega (arith, small (c .before) .0, small (c .before) .1)
 
-put-answer-requires : tie.Need-put-answer-requires
-put-answer-requires c κs = search needs
+cast-t11 : tie.Need-cast-t11
+cast-t11 c = omega (arith, small (c .before) .0, small (c .before) .1)
 
 enum-known-reading-2 : tie.Need-enum-known-reading-2
 enum-known-reading-2 c = search needs
 
 returns : tie.Need-returns
 returns c =
-    let t = c .before .before .before in
-    simp (sym (t .before .before .read-answer .ensures) ∙ t .reading .given .1) (refl, c .put-answer .ensures)
+    let k = c .before in
+    let t = k .before .before in
+    let g = t .reading .given .0 in
+    simp (sym (t .before .before .read-answer .ensures) ∙ t .reading .given .1) (refl, ap (λ (l : List ℕ). allFields l (g .1 .0) (g .1 .1 .0)) (k .answer-four .ensures))
 
 returns-2 : tie.Need-returns-2
 returns-2 c =
@@ -50,9 +54,9 @@ rabtunex-read-dpv1-answer-spec =
     (tie.spec
     read-answer-requires
     enum-known-reading
-    cast-put-answer
-    cast-put-answer-2
-    put-answer-requires
+    answer-four-requires
+    cast-t10
+    cast-t11
     enum-known-reading-2
     returns
     returns-2)

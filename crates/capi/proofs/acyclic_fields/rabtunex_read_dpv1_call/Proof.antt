@@ -1,8 +1,10 @@
 -- `capi::acyclic_fields::rabtunex_read_dpv1_call` meets its contract, by what is read.
-use mathlib.Core.Path.{refl, sym, _∙_}
-use Prim.Native.Nat.{_≤_}
+use mathlib.Core.Path.{refl, sym, ap, _∙_}
+use mathlib.Core.List.{List}
+use Prim.Native.Nat.{ℕ, _≤_}
 use native.Mathlib.Omega.{arith}
 use Rattle.acyclic.specs.Laws.{call-small}
+use Rattle.capi.specs.Acyclic.{allFields}
 use borrow.Author.Needs.{needs}
 use Rattle.capi.proofs.acyclic_fields.rabtunex_read_dpv1_call.Statement.{statement}
 use Rattle.capi.proofs.acyclic_fields.rabtunex_read_dpv1_call.Tie as tie
@@ -22,22 +24,24 @@ read-call-requires c κs = search needs
 enum-known-reading : tie.Need-enum-known-reading
 enum-known-reading c = search needs
 
-cast-put-call : tie.Need-cast-put-call
-cast-put-call c = omega (arith, small c .0)
+call-four-requires : tie.Need-call-four-requires
+call-four-requires c κs = search needs
 
-cast-put-call-2 : tie.Need-cast-put-call-2
-cast-put-call-2 c = omega (arith, small c .1)
+cast-t10 : tie.Need-cast-t10
+cast-t10 c = omega (arith, small (c .before) .0, small (c .before) .1)
 
-put-call-requires : tie.Need-put-call-requires
-put-call-requires c κs = search needs
+cast-t11 : tie.Need-cast-t11
+cast-t11 c = omega (arith, small (c .before) .0, small (c .before) .1)
 
 enum-known-reading-2 : tie.Need-enum-known-reading-2
 enum-known-reading-2 c = search needs
 
 returns : tie.Need-returns
 returns c =
-    let t = c .before .before .before in
-    simp (sym (t .before .before .read-call .ensures) ∙ t .reading .given .1) (refl, c .put-call .ensures)
+    let k = c .before in
+    let t = k .before .before in
+    let g = t .reading .given .0 in
+    simp (sym (t .before .before .read-call .ensures) ∙ t .reading .given .1) (refl, ap (λ (l : List ℕ). allFields l (g .1 .0) (g .1 .1 .0)) (k .call-four .ensures))
 
 returns-2 : tie.Need-returns-2
 returns-2 c =
@@ -50,9 +54,9 @@ rabtunex-read-dpv1-call-spec =
     (tie.spec
     read-call-requires
     enum-known-reading
-    cast-put-call
-    cast-put-call-2
-    put-call-requires
+    call-four-requires
+    cast-t10
+    cast-t11
     enum-known-reading-2
     returns
     returns-2)

@@ -1,0 +1,2 @@
+pub mod Dpv1
+pub mod Service

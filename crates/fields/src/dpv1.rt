@@ -1,0 +1,150 @@
+// The first four fields of DPV1 calls and answers, and what such fields name.
+ghost use mathlib.Core.Path.{_≡_};
+ghost use Rattle.acyclic.specs.Numbers.{negativeNumber};
+ghost use Rattle.fields.specs.Dpv1.{fourBytes, callFour, answerFour, callNamed, failedOf, negativeNamed, answerNamed};
+use acyclic::Answer;
+use acyclic::Call;
+use acyclic::Function;
+
+// The first four fields: the number, and three that each case has its own use for.
+pub struct Four(pub u8, pub u8, pub u8, pub u8);
+
+// The first four fields of a call. A poll has no byte that its number could stand in: no other call
+// has the number 0.
+pub fn call_four(call: Call) -> Four
+    ensures { λ r. ⌜ fourBytes r ≡ callFour call ⌝ }
+{
+    match call {
+        Call::Poll => Four(0, 0, 0, 0),
+        Call::Read {
+            slot,
+            index,
+            length,
+        } => Four(0x5E, slot, index, length),
+        Call::Write { slot, index } => Four(0x5F, slot, index, 0),
+        Call::AlarmAck {
+            slot,
+            alarm,
+            specifier,
+        } => Four(0x5C, slot, alarm, specifier),
+        Call::Idle => Four(0x48, 0, 0, 0),
+        Call::Transport { slot, index } => Four(0x51, slot, index, 0),
+    }
+}
+
+// The number of a function's negative answer: its own plus 80 hex.
+fn negative_number(function: Function) -> u8
+    ensures { λ r. ⌜ r ≡ negativeNumber function ⌝ }
+{
+    match function {
+        Function::Read => 0xDE,
+        Function::Write => 0xDF,
+        Function::AlarmAck => 0xDC,
+        Function::Transport => 0xD1,
+    }
+}
+
+// The first four fields of an answer.
+pub fn answer_four(answer: Answer) -> Four
+    ensures { λ r. ⌜ fourBytes r ≡ answerFour answer ⌝ }
+{
+    match answer {
+        Answer::Read { slot, index } => Four(0x5E, slot, index, 0),
+        Answer::Write {
+            slot,
+            index,
+            length,
+        } => Four(0x5F, slot, index, length),
+        Answer::AlarmAck {
+            slot,
+            alarm,
+            specifier,
+        } => Four(0x5C, slot, alarm, specifier),
+        Answer::Idle => Four(0x48, 0, 0, 0),
+        Answer::Transport { slot, index } => Four(0x51, slot, index, 0),
+        Answer::Negative {
+            function,
+            decode,
+            code1,
+            code2,
+        } => Four(negative_number(function), decode, code1, code2),
+    }
+}
+
+// What fields that are to be written name by their number. One that the way does not have is unknown.
+pub enum Case {
+    Call(Call),
+    Answer(Answer),
+    Unknown,
+}
+
+// What the number and the three fields behind it name in a call. Fields that the call does not have
+// are not looked at.
+pub fn call_named(number: u8, slot: u8, index: u8, last: u8) -> Case
+    ensures { λ r. ⌜ r ≡ callNamed number slot index last ⌝ }
+{
+    match number {
+        0 => Case::Call(Call::Poll),
+        0x5E => Case::Call(Call::Read {
+            slot,
+            index,
+            length: last,
+        }),
+        0x5F => Case::Call(Call::Write { slot, index }),
+        0x5C => Case::Call(Call::AlarmAck {
+            slot,
+            alarm: index,
+            specifier: last,
+        }),
+        0x48 => Case::Call(Call::Idle),
+        0x51 => Case::Call(Call::Transport { slot, index }),
+        _ => Case::Unknown,
+    }
+}
+
+// A negative answer for a function.
+fn failed(function: Function, decode: u8, code1: u8, code2: u8) -> Case
+    ensures { λ r. ⌜ r ≡ failedOf function decode code1 code2 ⌝ }
+{
+    Case::Answer(Answer::Negative {
+        function,
+        decode,
+        code1,
+        code2,
+    })
+}
+
+// What a number names in an answer that no positive one has.
+fn negative_named(number: u8, decode: u8, code1: u8, code2: u8) -> Case
+    ensures { λ r. ⌜ r ≡ negativeNamed number decode code1 code2 ⌝ }
+{
+    match number {
+        0xDE => failed(Function::Read, decode, code1, code2),
+        0xDF => failed(Function::Write, decode, code1, code2),
+        0xDC => failed(Function::AlarmAck, decode, code1, code2),
+        0xD1 => failed(Function::Transport, decode, code1, code2),
+        _ => Case::Unknown,
+    }
+}
+
+// What the number and the three fields behind it name in an answer.
+pub fn answer_named(number: u8, slot: u8, index: u8, last: u8) -> Case
+    ensures { λ r. ⌜ r ≡ answerNamed number slot index last ⌝ }
+{
+    match number {
+        0x5E => Case::Answer(Answer::Read { slot, index }),
+        0x5F => Case::Answer(Answer::Write {
+            slot,
+            index,
+            length: last,
+        }),
+        0x5C => Case::Answer(Answer::AlarmAck {
+            slot,
+            alarm: index,
+            specifier: last,
+        }),
+        0x48 => Case::Answer(Answer::Idle),
+        0x51 => Case::Answer(Answer::Transport { slot, index }),
+        _ => negative_named(number, slot, index, last),
+    }
+}
