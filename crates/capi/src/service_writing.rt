@@ -23,7 +23,7 @@ fn reserved_number(format: Format, da: u8, sa: u8, fc: u8, len: usize) -> u8
         return 12;
     }
     let header = access::header_of(Service::Dpv1, da, sa, fc);
-    if !fdl::writable(format, header, 4 + len) {
+    if !framing::writable(format, header, 4 + len) {
         return 12;
     }
     let route = access::route_of(header);

@@ -151,15 +151,15 @@ fn write_kind(kind: Kind, fields: &[u8; 8], user: &[u8], out: &mut [u8]) -> Writ
             if user.len() != 0 {
                 return Written::Refused(12);
             }
-            fdl::write_confirmation(out)
+            framing::write_confirmation(out)
         }
         Kind::Token => {
             if user.len() != 0 {
                 return Written::Refused(12);
             }
-            fdl::write_token(fields[1], fields[2], out)
+            framing::write_token(fields[1], fields[2], out)
         }
-        Kind::Telegram(format) => fdl::write(format, header_of(fields), user, out),
+        Kind::Telegram(format) => framing::write(format, header_of(fields), user, out),
         Kind::Unknown => Written::Refused(12),
     }
 }

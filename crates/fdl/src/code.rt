@@ -30,7 +30,8 @@ pub fn class_of(fc: u8) -> Class
     }
 }
 
-pub(crate) fn reserved(fc: u8) -> bool
+// Whether a function code is reserved.
+pub fn reserved(fc: u8) -> bool
     ensures { λ r. ⌜ r ≡ isReserved (classOf fc) ⌝ }
 {
     class_number(fc) == 5

@@ -1,21 +1,17 @@
-// PROFIBUS data link (FDL) telegrams: function codes, reading and writing (document 01, "Telegram
-// layouts" and "Function codes").
+// PROFIBUS data link (FDL) telegrams: function codes and reading (document 01, "Telegram layouts" and
+// "Function codes"), and the definitions and laws of both ways; the crate framing writes.
 mod code;
 mod reading;
 mod table;
 mod telegram;
-mod writing;
 
 pub use code::Class;
 pub use code::class_of;
+pub use code::reserved;
 pub use reading::Reading;
 pub use reading::read;
 pub use telegram::Format;
 pub use telegram::Header;
 pub use telegram::Sap;
-pub use writing::user_start;
-pub use writing::writable;
-pub use writing::write;
-pub use writing::write_around;
-pub use writing::write_confirmation;
-pub use writing::write_token;
+pub use telegram::checksum;
+pub use telegram::sap_length;

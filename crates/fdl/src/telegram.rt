@@ -1,7 +1,5 @@
 // The fields of a telegram, and its checksum.
 ghost use mathlib.Core.Path.{_≡_};
-ghost use Prim.Native.Nat.{_≤_};
-ghost use lib.ListN.{length};
 ghost use Rattle.fdl.specs.Telegram.{sapLength, checksumOf};
 
 // The start byte's format of a telegram with fields.
@@ -27,7 +25,7 @@ pub struct Header {
 }
 
 // How many bytes of the PDU an access point takes.
-pub(crate) fn sap_length(sap: Sap) -> usize
+pub fn sap_length(sap: Sap) -> usize
     ensures { λ r. ⌜ r ≡ sapLength sap ⌝ }
 {
     match sap {
@@ -36,16 +34,15 @@ pub(crate) fn sap_length(sap: Sap) -> usize
     }
 }
 
-// The checksum of DA to the last byte of the PDU; the bound keeps the sum within 16 bits.
-pub(crate) fn checksum(part: &[u8]) -> u8
-    requires { ⌜ length (now part) ≤ 249 ⌝ }
+// The checksum of DA to the last byte of the PDU.
+pub fn checksum(part: &[u8]) -> u8
     ensures { λ r. ⌜ r ≡ checksumOf (now (part .entry)) ⌝ }
 {
     let mut sum: u16 = 0;
     let mut i = 0;
     while i < part.len() {
-        sum += part[i] as u16;
+        sum = (sum + part[i] as u16) % 256;
         i += 1;
     }
-    (sum % 256) as u8
+    sum as u8
 }

@@ -25,7 +25,7 @@ fn fitting(format: Format, header: Header, content: Content, len: usize) -> bool
     if 246 < len {
         return false;
     }
-    fdl::writable(format, header, content::fixed_length(content) + len)
+    framing::writable(format, header, content::fixed_length(content) + len)
 }
 
 // Writes the user data at the front of out.
@@ -63,7 +63,7 @@ fn write_way(
     ensures answer { λ r. ⌜ r ≡ answerBy (wayVerdict way content (now (part .entry))) (telegramOf format header (bytesFor content (now (part .entry)))) (length (now (out .entry))) ⌝ }
     ensures bytes { λ _. ⌜ now (out .exit) ≡ heldBy (wayVerdict way content (now (part .entry))) (telegramOf format header (bytesFor content (now (part .entry)))) (now (out .entry)) ⌝ }
 {
-    let start = fdl::user_start(format, header);
+    let start = framing::user_start(format, header);
     let len = content::fixed_length(content) + part.len();
     let room = out.len();
     if room < start + len + 2 {
@@ -71,7 +71,7 @@ fn write_way(
     }
     let written = write_data(way, content, part, &mut out[start..]);
     match written {
-        Written::Stored(stored) => fdl::write_around(format, header, stored, out),
+        Written::Stored(stored) => framing::write_around(format, header, stored, out),
         Written::Refused(number) => Written::Refused(number),
     }
 }

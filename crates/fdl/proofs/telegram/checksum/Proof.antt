@@ -1,5 +1,6 @@
--- `fdl::telegram::checksum` meets its contract. The loop's invariant: the sum so far and that of what is left are the whole.
-use Prim.Native.Nat.{_≤_, _+_, _*_, _-_}
+-- `fdl::telegram::checksum` meets its contract. The loop's invariant: the sum so far and that of what is left are the
+-- whole, modulo 256.
+use Prim.Native.Nat.{_≤_, _<_, _+_, _-_, _%_}
 use mathlib.Core.Path.{_≡_}
 use native.Mathlib.Numerals.{add-one}
 use native.Mathlib.Omega.{arith}
@@ -10,7 +11,7 @@ use Rattle.fdl.proofs.telegram.checksum.Statement.{statement}
 use Rattle.fdl.proofs.telegram.checksum.Tie as tie
 
 abbrev Inv-loop : tie.InvT-loop
-Inv-loop part sum₀ i₀ sum i = (i ≤ length part) × (sum ≤ 255 * i) × (sum + sumOf (drop i part) ≡ sumOf part)
+Inv-loop part sum₀ i₀ sum i = (i ≤ length part) × (sum < 256) × ((sum + sumOf (drop i part)) % 256 ≡ sumOf part % 256)
 
 abbrev μ-loop : tie.MeasureT-loop
 μ-loop part sum₀ i₀ sum i = length part - i
@@ -25,7 +26,7 @@ cast-sum : tie.Need-cast-sum Inv-loop μ-loop
 cast-sum c = omega (arith, c .shared-slice-known .given (c .before .before .loop .i))
 
 add-sum : tie.Need-add-sum Inv-loop μ-loop
-add-sum c = omega (arith, c .before .before .before .pre, c .shared-slice-known .given (c .before .before .loop .i))
+add-sum c = omega (arith, c .shared-slice-known .given (c .before .before .loop .i))
 
 add-i : tie.Need-add-i Inv-loop μ-loop
 add-i c = omega arith
