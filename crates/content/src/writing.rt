@@ -59,7 +59,7 @@ pub fn write_answer(content: Content, part: &[u8], out: &mut [u8]) -> Written
         Content::GlobalControl(_) => Written::Refused(10),
         Content::GetCfg => configuration::write(part, out),
         Content::SlaveDiagCall => Written::Refused(10),
-        Content::SlaveDiag(header) => diagnosis::write(header, part, out),
+        Content::SlaveDiag(header) => diagnosis_writer::write(header, part, out),
         Content::SetPrm(_) => Written::Refused(10),
         Content::ChkCfg => Written::Refused(10),
     }

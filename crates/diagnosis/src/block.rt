@@ -24,7 +24,7 @@ pub(crate) enum Found {
 }
 
 // Whether the codes of a channel block's third byte, its channel type and its error, are in use.
-pub(crate) fn good_code(kind: u8, error: u8) -> bool
+pub fn good_code(kind: u8, error: u8) -> bool
     ensures { λ r. ⌜ r ≡ goodCode kind error ⌝ }
 {
     if kind < 1 {

@@ -23,7 +23,7 @@ pub enum Reading {
 }
 
 // How many blocks there are, or why the bytes are no diagnosis.
-pub(crate) enum Count {
+pub enum Count {
     Blocks(usize),
     Refused(Refusal),
 }
@@ -119,8 +119,8 @@ fn agreeing_from(status1: u8, s: &[u8], from: usize) -> Count
     }
 }
 
-// What a header with the bytes of s from a place on behind it is: reading and writing judge alike.
-pub(crate) fn judged(header: Header, s: &[u8], from: usize) -> Count
+// What a header with the bytes of s from a place on behind it is.
+fn judged(header: Header, s: &[u8], from: usize) -> Count
     requires { ⌜ from ≤ length (now s) ⌝ }
     ensures { λ r. ⌜ r ≡ judge header (drop from (now (s .entry))) ⌝ }
 {
@@ -140,6 +140,13 @@ pub(crate) fn judged(header: Header, s: &[u8], from: usize) -> Count
         return Count::Refused(Refusal { number: 21 });
     }
     agreeing_from(header.status1, s, from)
+}
+
+// How many blocks stand behind a header, or why the two are no diagnosis: reading and writing judge alike.
+pub fn blocks_behind(header: Header, blocks: &[u8]) -> Count
+    ensures { λ r. ⌜ r ≡ judge header (now (blocks .entry)) ⌝ }
+{
+    judged(header, blocks, 0)
 }
 
 fn header_of(bytes: &[u8]) -> Header

@@ -94,7 +94,7 @@ pub(crate) fn diagnosis_line(bytes: &[u8], out: &mut [u8]) {
             header_words(header);
             field(count);
             blocks(bytes);
-            let written = diagnosis::write(header, behind(bytes, 6), out);
+            let written = diagnosis_writer::write(header, behind(bytes, 6), out);
             again(written, out);
             text(b"\n");
         }
@@ -114,17 +114,17 @@ pub(crate) fn diagnosis_fields(fields: &[u8], out: &mut [u8]) {
         master: fields[3],
         ident: octets::join16(fields[4], fields[5]),
     };
-    let written = diagnosis::write(header, behind(fields, 6), out);
+    let written = diagnosis_writer::write(header, behind(fields, 6), out);
     stored(written, out);
 }
 
 pub(crate) fn device_fields(bytes: &[u8], out: &mut [u8]) {
-    let written = diagnosis::write_device(bytes, out);
+    let written = diagnosis_writer::write_device(bytes, out);
     stored(written, out);
 }
 
 pub(crate) fn map_fields(map: &[u8], out: &mut [u8]) {
-    let written = diagnosis::write_module(map, out);
+    let written = diagnosis_writer::write_module(map, out);
     stored(written, out);
 }
 
@@ -141,6 +141,6 @@ pub(crate) fn channel_fields(fields: &[u8], out: &mut [u8]) {
         kind: fields[3],
         error: fields[4],
     };
-    let written = diagnosis::write_channel(channel, out);
+    let written = diagnosis_writer::write_channel(channel, out);
     stored(written, out);
 }

@@ -4,12 +4,12 @@ ghost use mathlib.Core.List.{_∷_};
 ghost use Prim.Native.Nat.{_≤_};
 ghost use lib.ListN.{length};
 ghost use Rattle.octets.specs.Front.{AtFront, answerBy, heldBy};
 ghost use Rattle.diagnosis.specs.Writing.{headerBytes, diagnosisBytes, verdictOf, sizedBytes, sizedVerdict, deviceBytes, deviceVerdict, moduleBytes, moduleVerdict, fits, channelBytes, channelVerdict};
-use crate::block::good_code;
-use crate::reading::Count;
-use crate::reading::Header;
-use crate::reading::judged;
-use crate::walk::Channel;
+use diagnosis::Channel;
+use diagnosis::Count;
+use diagnosis::Header;
+use diagnosis::blocks_behind;
+use diagnosis::good_code;
 use octets::Written;
 
 fn put_header(header: Header, out: &mut [u8]) -> usize
@@ -36,7 +36,7 @@ pub fn write(header: Header, blocks: &[u8], out: &mut [u8]) -> Written
     ensures answer { λ r. ⌜ r ≡ answerBy (verdictOf header (now (blocks .entry))) (diagnosisBytes header (now (blocks .entry))) (length (now (out .entry))) ⌝ }
     ensures bytes { λ _. ⌜ now (out .exit) ≡ heldBy (verdictOf header (now (blocks .entry))) (diagnosisBytes header (now (blocks .entry))) (now (out .entry)) ⌝ }
 {
-    let count = judged(header, blocks, 0);
+    let count = blocks_behind(header, blocks);
     match count {
         Count::Refused(refusal) => Written::Refused(refusal.number),
         Count::Blocks(_) => {

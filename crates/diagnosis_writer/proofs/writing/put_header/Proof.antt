@@ -1,4 +1,4 @@
--- `diagnosis::writing::put_header` meets its contract. Four stores, and the ident number behind them.
+-- `diagnosis_writer::writing::put_header` meets its contract. Four stores, and the ident number behind them.
 use mathlib.Core.Path.{_∙_}
 use mathlib.Core.List.{List}
 use Prim.Native.Nat.{ℕ}
@@ -9,10 +9,10 @@ use denote.Ref.{now}
 use borrow.Author.Needs.{needs}
 use Rattle.octets.specs.Number.{bytesOf}
 use Rattle.octets.specs.Front.{AtFront, at-front, stores, rest-fits, both}
 use Rattle.diagnosis.specs.Writing.{headerBytes}
 use Rattle.diagnosis.specs.declared.reading.Header.{Header}
-use Rattle.diagnosis.proofs.writing.put_header.Statement.{statement}
-use Rattle.diagnosis.proofs.writing.put_header.Tie as tie
+use Rattle.diagnosis_writer.proofs.writing.put_header.Statement.{statement}
+use Rattle.diagnosis_writer.proofs.writing.put_header.Tie as tie
 
 -- what stands before the ident number
 abbrev front : Header → List ℕ

@@ -1,4 +1,4 @@
--- `diagnosis::writing::write` meets its contract. What was judged is the verdict, and then the diagnosis fits.
+-- `diagnosis_writer::writing::write` meets its contract. What was judged is the verdict, and then the diagnosis fits.
 use mathlib.Core.Path.{_≡_, sym, ap, _∙_}
 use mathlib.Core.List.{List}
 use Prim.Native.Nat.{ℕ}
@@ -6,9 +6,9 @@ use native.Mathlib.Omega.{arith}
 use denote.Ref.{now}
 use borrow.Author.Needs.{needs}
 use Rattle.octets.specs.Front.{Verdict, fine, refused, too-small, stored}
 use Rattle.diagnosis.specs.Writing.{diagnosisBytes, verdictBy, verdictOf}
-use Rattle.diagnosis.proofs.writing.write.Statement.{statement}
-use Rattle.diagnosis.proofs.writing.write.Tie as tie
+use Rattle.diagnosis_writer.proofs.writing.write.Statement.{statement}
+use Rattle.diagnosis_writer.proofs.writing.write.Tie as tie
 
 -- of what is to be written: its bytes and the verdict
 abbrev bytesAt : tie.Start → List ℕ
@@ -18,10 +18,10 @@ abbrev verdictAt : tie.Start → Verdict
 verdictAt b = verdictOf (b .args .header) (now (b .args .blocks))
 
 good : (c : tie.After-enum-told) → verdictAt (c .before .before .before .before .before) ≡ fine
-good c = ap verdictBy (sym (c .before .before .judged .ensures) ∙ c .enum-told .given .1)
+good c = ap verdictBy (sym (c .before .before .blocks-behind .ensures) ∙ c .enum-told .given .1)
 
-judged-requires : tie.Need-judged-requires
-judged-requires c κs = search needs
+blocks-behind-requires : tie.Need-blocks-behind-requires
+blocks-behind-requires c κs = search needs
 
 enum-known-count : tie.Need-enum-known-count
 enum-known-count c = search needs
@@ -45,7 +45,7 @@ returns-2 c =
     let f = c .before in
     let b = f .before .before .before .before .before in
     rw
-    (ap verdictBy (sym (f .before .before .judged .ensures) ∙ f .count .given .1))
+    (ap verdictBy (sym (f .before .before .blocks-behind .ensures) ∙ f .count .given .1))
     (refused (f .count .given .0 .0 .number) (bytesAt b) (now (b .args .out)))
 
 same-length : tie.Need-same-length
@@ -60,7 +60,7 @@ pub write-spec : {M : Type 1} → statement M
 write-spec =
     tie.close
     (tie.spec
-    judged-requires
+    blocks-behind-requires
     enum-known-count
     enum-told
     add-if1

@@ -1,4 +1,4 @@
--- `diagnosis::writing::write_sized` meets its contract. The tests are the verdict, and then the block fits.
+-- `diagnosis_writer::writing::write_sized` meets its contract. The tests are the verdict, and then the block fits.
 use mathlib.Core.Path.{_≡_}
 use mathlib.Core.List.{List}
 use Prim.Native.Nat.{ℕ}
@@ -7,9 +7,9 @@ use denote.Ref.{now}
 use borrow.Author.Needs.{needs}
 use borrow.Author.Tests.{lt-ltb, le-ltb}
 use Rattle.octets.specs.Front.{fine, refused, too-small, stored}
 use Rattle.diagnosis.specs.Writing.{sizedBytes, sizedVerdict}
-use Rattle.diagnosis.proofs.writing.write_sized.Statement.{statement}
-use Rattle.diagnosis.proofs.writing.write_sized.Tie as tie
+use Rattle.diagnosis_writer.proofs.writing.write_sized.Statement.{statement}
+use Rattle.diagnosis_writer.proofs.writing.write_sized.Tie as tie
 
 -- what is to be written
 abbrev bytesAt : tie.Start → List ℕ

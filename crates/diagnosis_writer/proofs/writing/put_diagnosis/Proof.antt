@@ -1,9 +1,9 @@
--- `diagnosis::writing::put_diagnosis` meets its contract. Two stores: the blocks behind the header.
+-- `diagnosis_writer::writing::put_diagnosis` meets its contract. Two stores: the blocks behind the header.
 use denote.Ref.{now}
 use borrow.Author.Needs.{needs}
 use Rattle.octets.specs.Front.{both-stored}
-use Rattle.diagnosis.proofs.writing.put_diagnosis.Statement.{statement}
-use Rattle.diagnosis.proofs.writing.put_diagnosis.Tie as tie
+use Rattle.diagnosis_writer.proofs.writing.put_diagnosis.Statement.{statement}
+use Rattle.diagnosis_writer.proofs.writing.put_diagnosis.Tie as tie
 
 put-header-requires : tie.Need-put-header-requires
 put-header-requires c κs = search needs
