@@ -1,10 +1,9 @@
-// PROFIBUS DP configuration data: reading, the offsets of its modules, walking over them and writing
-// (document 01, "Configuration").
+// PROFIBUS DP configuration data (document 01, "Configuration"): reading, the offsets of its modules and
+// walking over them, and the definitions and laws of both ways; the crate configuration_writer writes.
 mod fields;
 mod lists;
 mod reading;
 mod walk;
-mod writing;
 
 pub use fields::Identifier;
 pub use fields::Module;
@@ -16,5 +15,3 @@ pub use walk::Position;
 pub use walk::Step;
 pub use walk::first;
 pub use walk::next;
-pub use writing::write;
-pub use writing::write_module;

@@ -39,7 +39,7 @@ pub fn write_call(content: Content, part: &[u8], out: &mut [u8]) -> Written
         Content::SlaveDiagCall => write_at_most(0, part, out),
         Content::SlaveDiag(_) => Written::Refused(10),
         Content::SetPrm(fields) => parameters::write(fields, part, out),
-        Content::ChkCfg => configuration::write(part, out),
+        Content::ChkCfg => configuration_writer::write(part, out),
     }
 }
 
@@ -57,7 +57,7 @@ pub fn write_answer(content: Content, part: &[u8], out: &mut [u8]) -> Written
         Content::RdInp => write_at_most(244, part, out),
         Content::RdOutp => write_at_most(244, part, out),
         Content::GlobalControl(_) => Written::Refused(10),
-        Content::GetCfg => configuration::write(part, out),
+        Content::GetCfg => configuration_writer::write(part, out),
         Content::SlaveDiagCall => Written::Refused(10),
         Content::SlaveDiag(header) => diagnosis_writer::write(header, part, out),
         Content::SetPrm(_) => Written::Refused(10),

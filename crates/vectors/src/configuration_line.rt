@@ -72,7 +72,11 @@ fn modules(bytes: &[u8], out: &mut [u8]) {
             return;
         };
         module(found, start, len);
-        let written = configuration::write_module(found, octets::part(bytes, start, len), out);
+        let written = configuration_writer::write_module(
+            found,
+            octets::part(bytes, start, len),
+            out,
+        );
         again(written, out);
         position = next;
         turns -= 1;
@@ -125,7 +129,7 @@ pub(crate) fn configuration_line(bytes: &[u8], out: &mut [u8]) {
             inputs: _,
             outputs: _,
         } => {
-            let written = configuration::write(bytes, out);
+            let written = configuration_writer::write(bytes, out);
             again(written, out);
             text(b"\n");
         }
@@ -133,7 +137,7 @@ pub(crate) fn configuration_line(bytes: &[u8], out: &mut [u8]) {
 }
 
 pub(crate) fn configuration_fields(modules: &[u8], out: &mut [u8]) {
-    let written = configuration::write(modules, out);
+    let written = configuration_writer::write(modules, out);
     stored(written, out);
 }
 
@@ -182,7 +186,7 @@ fn written_module(
         input,
         output,
     };
-    let written = configuration::write_module(module, vendor, out);
+    let written = configuration_writer::write_module(module, vendor, out);
     stored(written, out);
 }
 

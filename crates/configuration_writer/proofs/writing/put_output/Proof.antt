@@ -1,13 +1,13 @@
--- `configuration::writing::put_output` meets its contract. Two stores: what follows behind the length byte.
+-- `configuration_writer::writing::put_output` meets its contract. Two stores: what follows behind the length byte.
 use mathlib.Core.List.{List, _++_}
 use Prim.Native.Nat.{ℕ}
 use native.Mathlib.Omega.{arith}
 use denote.Ref.{now}
 use borrow.Author.Needs.{needs}
 use Rattle.octets.specs.Front.{first-fits, within, rest-fits, both}
 use Rattle.configuration.specs.Writing.{sideBytes}
-use Rattle.configuration.proofs.writing.put_output.Statement.{statement}
-use Rattle.configuration.proofs.writing.put_output.Tie as tie
+use Rattle.configuration_writer.proofs.writing.put_output.Statement.{statement}
+use Rattle.configuration_writer.proofs.writing.put_output.Tie as tie
 
 -- what `put_input` stores
 abbrev restAt : tie.Start → List ℕ

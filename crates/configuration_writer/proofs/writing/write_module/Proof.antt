@@ -1,7 +1,7 @@
--- `configuration::writing::write_module` meets its contract. Each format has its own writer.
+-- `configuration_writer::writing::write_module` meets its contract. Each format has its own writer.
 use borrow.Author.Needs.{needs}
-use Rattle.configuration.proofs.writing.write_module.Statement.{statement}
-use Rattle.configuration.proofs.writing.write_module.Tie as tie
+use Rattle.configuration_writer.proofs.writing.write_module.Statement.{statement}
+use Rattle.configuration_writer.proofs.writing.write_module.Tie as tie
 
 enum-told : tie.Need-enum-told
 enum-told c = search needs

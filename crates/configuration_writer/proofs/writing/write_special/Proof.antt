@@ -1,4 +1,4 @@
--- `configuration::writing::write_special` meets its contract. The four tests are the verdict, and what is added up is the length of the module.
+-- `configuration_writer::writing::write_special` meets its contract. The four tests are the verdict, and what is added up is the length of the module.
 use mathlib.Core.Path.{_≡_, sym, _∙_}
 use mathlib.Core.Bool.{true}
 use mathlib.Core.List.{List}
@@ -9,10 +9,10 @@ use denote.Ref.{now}
 use borrow.Author.Tests.{lt-ltb, le-ltb, eq-eqb, ne-eqb, not-true, not-false}
 use borrow.Author.Needs.{needs}
 use Rattle.octets.specs.Front.{fine, refused, too-small, stored}
 use Rattle.configuration.specs.Writing.{goodSide, specialBytes, specialVerdict}
 use Rattle.configuration.specs.Lemmas.Sides.{present-small, special-length}
-use Rattle.configuration.proofs.writing.write_special.Statement.{statement}
-use Rattle.configuration.proofs.writing.write_special.Tie as tie
+use Rattle.configuration_writer.proofs.writing.write_special.Statement.{statement}
+use Rattle.configuration_writer.proofs.writing.write_special.Tie as tie
 
 abbrev bytesAt : tie.Start → List ℕ
 bytesAt b = specialBytes (b .args .input) (b .args .output) (now (b .args .vendor))

@@ -1,4 +1,4 @@
--- `configuration::writing::put_special` meets its contract. Two stores: what follows behind the identifier byte.
+-- `configuration_writer::writing::put_special` meets its contract. Two stores: what follows behind the identifier byte.
 use mathlib.Core.Path.{_≡_, sym, ap, ap₂, _∙_}
 use mathlib.Core.List.{List, [], _∷_, _++_}
 use Prim.Native.Nat.{ℕ, _+_, _*_, _≤_}
@@ -7,10 +7,10 @@ use lib.ListN.{length, set, length-append, length-drop}
 use denote.Ref.{now}
 use borrow.Author.Needs.{needs}
 use Rattle.octets.specs.Front.{AtFront, stores, first-fits, within, rest-fits, both}
 use Rattle.configuration.specs.Writing.{sideBytes, specialBytes}
 use Rattle.configuration.specs.Lemmas.Sides.{present-small}
-use Rattle.configuration.proofs.writing.put_special.Statement.{statement}
-use Rattle.configuration.proofs.writing.put_special.Tie as tie
+use Rattle.configuration_writer.proofs.writing.put_special.Statement.{statement}
+use Rattle.configuration_writer.proofs.writing.put_special.Tie as tie
 
 abbrev entry : tie.After-present2 → tie.Start
 entry c = c .before .before .before .before

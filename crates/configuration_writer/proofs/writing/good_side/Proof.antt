@@ -1,9 +1,9 @@
--- `configuration::writing::good_side` meets its contract. The definition has the same two cases.
+-- `configuration_writer::writing::good_side` meets its contract. The definition has the same two cases.
 use mathlib.Core.Path.{sym, ap, _∙_}
 use borrow.Author.Needs.{needs}
 use Rattle.configuration.specs.Writing.{goodSide}
-use Rattle.configuration.proofs.writing.good_side.Statement.{statement}
-use Rattle.configuration.proofs.writing.good_side.Tie as tie
+use Rattle.configuration_writer.proofs.writing.good_side.Statement.{statement}
+use Rattle.configuration_writer.proofs.writing.good_side.Tie as tie
 
 enum-told : tie.Need-enum-told
 enum-told c = search needs

@@ -1,13 +1,13 @@
--- `configuration::writing::put_side` meets its contract. A length byte is one byte stored, and none is nothing stored.
+-- `configuration_writer::writing::put_side` meets its contract. A length byte is one byte stored, and none is nothing stored.
 use mathlib.Core.Path.{_≡_}
 use mathlib.Core.List.{[], _∷_}
 use Prim.Native.Nat.{_≤_}
 use lib.ListN.{length}
 use borrow.Author.Needs.{needs}
 use Rattle.octets.specs.Front.{stores}
 use Rattle.configuration.specs.Writing.{sideByte, sideBytes}
-use Rattle.configuration.proofs.writing.put_side.Statement.{statement}
-use Rattle.configuration.proofs.writing.put_side.Tie as tie
+use Rattle.configuration_writer.proofs.writing.put_side.Statement.{statement}
+use Rattle.configuration_writer.proofs.writing.put_side.Tie as tie
 
 room : (c : tie.After-side-byte) → 1 ≤ length (c .before .before .before .before .args .out .now)
 room c = rw (c .before .enum-told2 .given .1) at (c .before .before .before .before .pre .1)

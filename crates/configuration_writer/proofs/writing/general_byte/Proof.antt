@@ -1,13 +1,13 @@
--- `configuration::writing::general_byte` meets its contract. With 16 units at most, a byte has room for all.
+-- `configuration_writer::writing::general_byte` meets its contract. With 16 units at most, a byte has room for all.
 use mathlib.Core.Path.{_≡_, ap, _∙_}
 use mathlib.Core.Bool.{true}
 use Prim.Native.Nat.{_≤_}
 use native.Mathlib.Omega.{arith}
 use borrow.Author.Needs.{needs}
 use Rattle.configuration.specs.Writing.{goodSide, sideByte, eitherSide}
 use Rattle.configuration.specs.Lemmas.Sides.{present-small, side-byte-small, either-good, wider}
-use Rattle.configuration.proofs.writing.general_byte.Statement.{statement}
-use Rattle.configuration.proofs.writing.general_byte.Tie as tie
+use Rattle.configuration_writer.proofs.writing.general_byte.Statement.{statement}
+use Rattle.configuration_writer.proofs.writing.general_byte.Tie as tie
 
 input : (c : tie.After-present) → c .present .result ≤ 1
 input c = omega (arith, present-small (c .before .before .args .input))

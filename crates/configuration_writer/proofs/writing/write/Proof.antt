@@ -1,11 +1,11 @@
--- `configuration::writing::write` meets its contract. Reading gives the verdict, and the bytes are stored as they are.
+-- `configuration_writer::writing::write` meets its contract. Reading gives the verdict, and the bytes are stored as they are.
 use mathlib.Core.Path.{_≡_, sym, ap, _∙_}
 use denote.Ref.{now}
 use borrow.Author.Needs.{needs}
 use Rattle.octets.specs.Front.{fine, at-front, refused, too-small, stored}
 use Rattle.configuration.specs.Writing.{verdictIn, verdictOf}
-use Rattle.configuration.proofs.writing.write.Statement.{statement}
-use Rattle.configuration.proofs.writing.write.Tie as tie
+use Rattle.configuration_writer.proofs.writing.write.Statement.{statement}
+use Rattle.configuration_writer.proofs.writing.write.Tie as tie
 
 -- what reading accepts may be written
 fine-here : (c : tie.After-enum-told) → verdictOf (now (c .before .before .before .before .before .args .modules)) ≡ fine

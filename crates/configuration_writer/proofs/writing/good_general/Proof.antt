@@ -1,10 +1,10 @@
--- `configuration::writing::good_general` meets its contract. The definition has the same four cases.
+-- `configuration_writer::writing::good_general` meets its contract. The definition has the same four cases.
 use mathlib.Core.Bool.{Bool, Bool·beq}
 use borrow.Author.Tests.{eq-eqb, ne-eqb, not-true, not-false}
 use borrow.Author.Needs.{needs}
 use Rattle.configuration.specs.Writing.{goodGeneral}
-use Rattle.configuration.proofs.writing.good_general.Statement.{statement}
-use Rattle.configuration.proofs.writing.good_general.Tie as tie
+use Rattle.configuration_writer.proofs.writing.good_general.Statement.{statement}
+use Rattle.configuration_writer.proofs.writing.good_general.Tie as tie
 
 -- where both sides are there: whether their flags are the same
 abbrev words : tie.After-known-told3 → Bool

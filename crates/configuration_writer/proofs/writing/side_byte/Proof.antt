@@ -1,14 +1,14 @@
--- `configuration::writing::side_byte` meets its contract. Good units leave room for the two bits.
+-- `configuration_writer::writing::side_byte` meets its contract. Good units leave room for the two bits.
 use mathlib.Core.Path.{_≡_, refl, sym, ap, _∙_}
 use mathlib.Core.Bool.{Bool, true, false}
 use Prim.Native.Nat.{_≤_}
 use mir.Val.{boolByte}
 use native.Mathlib.Omega.{arith}
 use borrow.Author.Needs.{needs}
 use Rattle.configuration.specs.Writing.{bit, goodSide}
 use Rattle.configuration.specs.Lemmas.Sides.{bit-small, Units, units}
-use Rattle.configuration.proofs.writing.side_byte.Statement.{statement}
-use Rattle.configuration.proofs.writing.side_byte.Tie as tie
+use Rattle.configuration_writer.proofs.writing.side_byte.Statement.{statement}
+use Rattle.configuration_writer.proofs.writing.side_byte.Tie as tie
 
 -- a flag as a number
 byte-bit : (b : Bool) → boolByte b ≡ bit b

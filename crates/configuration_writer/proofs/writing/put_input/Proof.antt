@@ -1,10 +1,10 @@
--- `configuration::writing::put_input` meets its contract. Two stores: the vendor bytes behind the length byte.
+-- `configuration_writer::writing::put_input` meets its contract. Two stores: the vendor bytes behind the length byte.
 use denote.Ref.{now}
 use borrow.Author.Needs.{needs}
 use Rattle.octets.specs.Front.{first-fits, both-stored}
 use Rattle.configuration.specs.Writing.{sideBytes}
-use Rattle.configuration.proofs.writing.put_input.Statement.{statement}
-use Rattle.configuration.proofs.writing.put_input.Tie as tie
+use Rattle.configuration_writer.proofs.writing.put_input.Statement.{statement}
+use Rattle.configuration_writer.proofs.writing.put_input.Tie as tie
 
 put-side-requires : tie.Need-put-side-requires
 put-side-requires c κs =

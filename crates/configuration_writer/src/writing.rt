@@ -5,12 +5,12 @@ ghost use mathlib.Core.List.{[], _∷_, _++_};
 ghost use Prim.Native.Nat.{_≤_};
 ghost use lib.ListN.{length};
 ghost use Rattle.octets.specs.Front.{AtFront, answerBy, heldBy};
 ghost use Rattle.configuration.specs.Writing.{presence, sideByte, goodUnits, goodSide, goodGeneral, eitherSide, sideBytes, generalByte, generalVerdict, specialBytes, specialVerdict, moduleVerdict, moduleBytes, verdictOf};
-use crate::fields::Identifier;
-use crate::fields::Module;
-use crate::fields::Side;
-use crate::reading::Reading;
-use crate::reading::read;
+use configuration::Identifier;
+use configuration::Module;
+use configuration::Reading;
+use configuration::Side;
+use configuration::read;
 use octets::Written;
 
 // How many bytes the length of a side takes in the special format, which is also its bit.

@@ -1,4 +1,4 @@
--- `configuration::writing::write_general` meets its contract. The two tests are the verdict, and one byte is stored.
+-- `configuration_writer::writing::write_general` meets its contract. The two tests are the verdict, and one byte is stored.
 use mathlib.Core.Path.{_≡_, sym, _∙_}
 use mathlib.Core.Bool.{true}
 use mathlib.Core.List.{List, [], _∷_}
@@ -7,9 +7,9 @@ use denote.Ref.{now}
 use borrow.Author.Tests.{lt-ltb, le-ltb, not-true, not-false}
 use borrow.Author.Needs.{needs}
 use Rattle.octets.specs.Front.{fine, stores, refused, too-small, stored}
 use Rattle.configuration.specs.Writing.{goodGeneral, generalByte, generalVerdict}
-use Rattle.configuration.proofs.writing.write_general.Statement.{statement}
-use Rattle.configuration.proofs.writing.write_general.Tie as tie
+use Rattle.configuration_writer.proofs.writing.write_general.Statement.{statement}
+use Rattle.configuration_writer.proofs.writing.write_general.Tie as tie
 
 abbrev bytesAt : tie.Start → List ℕ
 bytesAt b = generalByte (b .args .input) (b .args .output) ∷ []

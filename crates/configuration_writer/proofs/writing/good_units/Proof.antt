@@ -1,7 +1,7 @@
--- `configuration::writing::good_units` meets its contract. The definition has the same two tests.
+-- `configuration_writer::writing::good_units` meets its contract. The definition has the same two tests.
 use borrow.Author.Tests.{ne-eqb}
-use Rattle.configuration.proofs.writing.good_units.Statement.{statement}
-use Rattle.configuration.proofs.writing.good_units.Tie as tie
+use Rattle.configuration_writer.proofs.writing.good_units.Statement.{statement}
+use Rattle.configuration_writer.proofs.writing.good_units.Tie as tie
 
 returns : tie.Need-returns
 returns c = simp (c .if1 .taken)
