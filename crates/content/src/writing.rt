@@ -38,7 +38,7 @@ pub fn write_call(content: Content, part: &[u8], out: &mut [u8]) -> Written
         Content::GetCfg => write_at_most(0, part, out),
         Content::SlaveDiagCall => write_at_most(0, part, out),
         Content::SlaveDiag(_) => Written::Refused(10),
-        Content::SetPrm(fields) => parameters::write(fields, part, out),
+        Content::SetPrm(fields) => parameters_writer::write(fields, part, out),
         Content::ChkCfg => configuration_writer::write(part, out),
     }
 }

@@ -31,7 +31,7 @@ pub struct Parameters {
 }
 
 // How many fixed bytes stand before the user bytes.
-pub(crate) fn fixed_length(mode: Mode) -> usize
+pub fn fixed_length(mode: Mode) -> usize
     ensures { λ r. ⌜ r ≡ fixedLength mode ⌝ }
 {
     match mode {
@@ -41,7 +41,7 @@ pub(crate) fn fixed_length(mode: Mode) -> usize
 }
 
 // Byte 1: bits 0 to 2 are 0.
-pub(crate) fn good_flags(flags: u8) -> bool
+pub fn good_flags(flags: u8) -> bool
     ensures { λ r. ⌜ r ≡ goodFlags flags ⌝ }
 {
     flags % 8 == 0
@@ -55,7 +55,7 @@ pub fn good_response(response: BitTimes) -> bool
 }
 
 // Byte 8: bits 0, 1, 3 and 4 are 0.
-pub(crate) fn good_status1(status: u8) -> bool
+pub fn good_status1(status: u8) -> bool
     ensures { λ r. ⌜ r ≡ goodStatus1 status ⌝ }
 {
     if status % 4 != 0 {
@@ -65,14 +65,14 @@ pub(crate) fn good_status1(status: u8) -> bool
 }
 
 // Byte 9: bit 1 is 0.
-pub(crate) fn good_status2(status: u8) -> bool
+pub fn good_status2(status: u8) -> bool
     ensures { λ r. ⌜ r ≡ goodStatus2 status ⌝ }
 {
     status / 2 % 2 == 0
 }
 
 // Byte 10: bits 5 and 6 are 0.
-pub(crate) fn good_status3(status: u8) -> bool
+pub fn good_status3(status: u8) -> bool
     ensures { λ r. ⌜ r ≡ goodStatus3 status ⌝ }
 {
     status / 32 % 4 == 0

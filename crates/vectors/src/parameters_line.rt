@@ -51,7 +51,7 @@ pub(crate) fn parameters_line(bytes: &[u8], mode: Mode, out: &mut [u8]) {
             let watchdog = parameters::watchdog(fields);
             field(watchdog.0 as usize);
             place(start, len);
-            let written = parameters::write(fields, octets::part(bytes, start, len), out);
+            let written = parameters_writer::write(fields, octets::part(bytes, start, len), out);
             again(written, out);
             text(b"\n");
         }
@@ -80,7 +80,7 @@ fn written_parameters(
         groups: fields[6],
         extension,
     };
-    let written = parameters::write(given, behind(fields, start), out);
+    let written = parameters_writer::write(given, behind(fields, start), out);
     stored(written, out);
 }
 

@@ -3,18 +3,18 @@ ghost use mathlib.Core.Path.{_≡_};
 ghost use Prim.Native.Nat.{_≤_};
 ghost use lib.ListN.{length};
 ghost use Rattle.octets.specs.Front.{AtFront, answerBy, heldBy};
 ghost use Rattle.parameters.specs.Fields.{modeOf};
 ghost use Rattle.parameters.specs.Writing.{frontBytes, bytesFor, userStart, goodExtension, verdictFor};
-use crate::fields::Extension;
-use crate::fields::Parameters;
-use crate::fields::fixed_length;
-use crate::fields::good_flags;
-use crate::fields::good_response;
-use crate::fields::good_status1;
-use crate::fields::good_status2;
-use crate::fields::good_status3;
 use octets::Mode;
 use octets::Written;
+use parameters::Extension;
+use parameters::Parameters;
+use parameters::fixed_length;
+use parameters::good_flags;
+use parameters::good_response;
+use parameters::good_status1;
+use parameters::good_status2;
+use parameters::good_status3;
 
 // The version that parameters are written in.
 fn mode_of(extension: Extension) -> Mode

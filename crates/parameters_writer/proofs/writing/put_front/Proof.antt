@@ -1,15 +1,15 @@
--- `parameters::writing::put_front` meets its contract. Seven bytes are stored in turn, and in DPV1 three more.
+-- `parameters_writer::writing::put_front` meets its contract. Seven bytes are stored in turn, and in DPV1 three more.
 use mathlib.Core.List.{[], _∷_, _++_}
 use Prim.Native.Nat.{_≤_}
 use native.Mathlib.Omega.{arith}
 use lib.ListN.{length, length-set}
 use borrow.Author.Needs.{needs}
 use Rattle.octets.specs.Front.{stores}
 use Rattle.parameters.specs.Fields.{modeOf}
 use Rattle.parameters.specs.Writing.{fixedBytes}
 use Rattle.parameters.specs.Lemmas.Fields.{fixed-least}
-use Rattle.parameters.proofs.writing.put_front.Statement.{statement}
-use Rattle.parameters.proofs.writing.put_front.Tie as tie
+use Rattle.parameters_writer.proofs.writing.put_front.Statement.{statement}
+use Rattle.parameters_writer.proofs.writing.put_front.Tie as tie
 
 -- the room of both versions, and that of DPV1
 room : (b : tie.Start) → 7 ≤ length (b .args .out .now)

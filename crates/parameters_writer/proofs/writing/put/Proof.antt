@@ -1,12 +1,12 @@
--- `parameters::writing::put` meets its contract. Two stores: the user bytes behind what stands before them.
+-- `parameters_writer::writing::put` meets its contract. Two stores: the user bytes behind what stands before them.
 use native.Mathlib.Omega.{arith}
 use denote.Ref.{now}
 use borrow.Author.Needs.{needs}
 use Rattle.octets.specs.Front.{first-fits, both-stored}
 use Rattle.parameters.specs.Writing.{frontBytes}
 use Rattle.parameters.specs.Lemmas.Fields.{front-length}
-use Rattle.parameters.proofs.writing.put.Statement.{statement}
-use Rattle.parameters.proofs.writing.put.Tie as tie
+use Rattle.parameters_writer.proofs.writing.put.Statement.{statement}
+use Rattle.parameters_writer.proofs.writing.put.Tie as tie
 
 put-front-requires : tie.Need-put-front-requires
 put-front-requires c κs =

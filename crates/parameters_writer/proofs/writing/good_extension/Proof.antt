@@ -1,10 +1,10 @@
--- `parameters::writing::good_extension` meets its contract. The definition has the same three tests in the same order.
+-- `parameters_writer::writing::good_extension` meets its contract. The definition has the same three tests in the same order.
 use mathlib.Core.Path.{sym, ap, _∙_}
 use borrow.Author.Needs.{needs}
 use borrow.Author.Tests.{not-true, not-false}
 use Rattle.parameters.specs.Writing.{goodExtension}
-use Rattle.parameters.proofs.writing.good_extension.Statement.{statement}
-use Rattle.parameters.proofs.writing.good_extension.Tie as tie
+use Rattle.parameters_writer.proofs.writing.good_extension.Statement.{statement}
+use Rattle.parameters_writer.proofs.writing.good_extension.Tie as tie
 
 enum-told : tie.Need-enum-told
 enum-told c = search needs

@@ -1,4 +1,4 @@
--- `parameters::writing::write` meets its contract. The tests are the verdict, and what is added up is the length of the bytes.
+-- `parameters_writer::writing::write` meets its contract. The tests are the verdict, and what is added up is the length of the bytes.
 use mathlib.Core.Path.{_≡_, sym, ap, _∙_}
 use mathlib.Core.Bool.{not}
 use mathlib.Core.List.{List}
@@ -9,11 +9,11 @@ use denote.Ref.{now}
 use borrow.Author.Needs.{needs}
 use borrow.Author.Tests.{lt-ltb, le-ltb, not-true, not-false}
 use Rattle.octets.specs.Front.{Verdict, fine, fault, refused, too-small, stored}
 use Rattle.parameters.specs.Fields.{modeOf, fixedLength, extensionVerdict, verdictOf}
 use Rattle.parameters.specs.Writing.{bytesFor, userStart, verdictFor}
 use Rattle.parameters.specs.Lemmas.Fields.{fixed-most, bytes-length, extension-verdict}
-use Rattle.parameters.proofs.writing.write.Statement.{statement}
-use Rattle.parameters.proofs.writing.write.Tie as tie
+use Rattle.parameters_writer.proofs.writing.write.Statement.{statement}
+use Rattle.parameters_writer.proofs.writing.write.Tie as tie
 
 -- of what is to be written: its bytes, and the verdict
 abbrev bytesAt : tie.Start → List ℕ
