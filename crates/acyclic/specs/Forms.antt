@@ -12,7 +12,6 @@ use Rattle.acyclic.specs.Numbers.{idleNumber}
 use Rattle.acyclic.specs.Errors.{goodDecode, goodCode1}
 use Rattle.acyclic.specs.declared.forms.Check.{Check}
 use Rattle.acyclic.specs.declared.forms.Check.the-variants.{Fine, Refused}
-use Rattle.acyclic.specs.declared.forms.Front.{Front}
 
 -- the verdict that a check came to
 abbrev pub verdictIn : Check → Verdict
@@ -46,9 +45,6 @@ negativeOf decode code1 count =
 
 abbrev pub four : (number second third fourth : ℕ) → List ℕ
 four number second third fourth = number ∷ second ∷ third ∷ fourth ∷ []
-
-abbrev pub frontBytes : Front → List ℕ
-frontBytes f = four (f .0) (f .1) (f .2) (f .3)
 
 -- ---- reading
 

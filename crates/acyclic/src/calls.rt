@@ -1,20 +1,13 @@
 // Calls: what a master asks of a slave.
 ghost use mathlib.Core.Path.{_≡_};
-ghost use lib.ListN.{length};
-ghost use Rattle.octets.specs.Front.{answerBy, heldBy};
 ghost use Rattle.acyclic.specs.Forms.{verdictIn};
-ghost use Rattle.acyclic.specs.Calls.{callAt, fourOf, readCallOf, verdictFor, bytesFor};
+ghost use Rattle.acyclic.specs.Calls.{callAt, fourOf, readCallOf};
 use crate::forms::Check;
-use crate::forms::Front;
 use crate::forms::alone;
 use crate::forms::counted_as;
 use crate::forms::ranged;
-use crate::forms::write_bare;
-use crate::forms::write_counted;
-use crate::forms::write_four;
 use crate::numbers::allowed_in_calls;
 use octets::Refusal;
-use octets::Written;
 
 // A write and a data transport have data, which are lent bytes; their count is the length byte.
 pub enum Call {
@@ -108,39 +101,4 @@ pub fn read_call(bytes: &[u8]) -> CallReading
         return CallReading::Refused(Refusal { number: 20 });
     }
     four(number, bytes[1], bytes[2], bytes[3], bytes.len() - 4)
-}
-
-// Writes a call from its fields and its data.
-pub fn write_call(call: Call, part: &[u8], out: &mut [u8]) -> Written
-    ensures answer { λ r. ⌜ r ≡ answerBy (verdictFor call (now (part .entry))) (bytesFor call (now (part .entry))) (length (now (out .entry))) ⌝ }
-    ensures bytes { λ _. ⌜ now (out .exit) ≡ heldBy (verdictFor call (now (part .entry))) (bytesFor call (now (part .entry))) (now (out .entry)) ⌝ }
-{
-    match call {
-        Call::Poll => {
-            if 0 < part.len() {
-                Written::Refused(20)
-            } else {
-                Written::Stored(0)
-            }
-        }
-        Call::Read {
-            slot,
-            index,
-            length,
-        } => {
-            let front = Front(0x5E, slot, index, length);
-            write_four(ranged(length, part.len()), front, part, out)
-        }
-        Call::Write { slot, index } => write_counted(0x5F, slot, index, 1, part, out),
-        Call::AlarmAck {
-            slot,
-            alarm,
-            specifier,
-        } => {
-            let front = Front(0x5C, slot, alarm, specifier);
-            write_four(alone(part.len()), front, part, out)
-        }
-        Call::Idle => write_bare(0x48, part, out),
-        Call::Transport { slot, index } => write_counted(0x51, slot, index, 0, part, out),
-    }
 }

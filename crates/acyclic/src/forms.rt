@@ -1,26 +1,19 @@
 // What calls and answers share: the forms that the bytes behind a function number have. A form judges
 // the fixed bytes, and count, how many bytes stand behind them; reader and writer ask the same.
 ghost use mathlib.Core.Path.{_≡_};
-ghost use mathlib.Core.List.{[], _∷_, _++_};
-ghost use Prim.Native.Nat.{_≤_};
-ghost use lib.ListN.{length};
-ghost use Rattle.octets.specs.Front.{AtFront, fine, answerBy, heldBy};
-ghost use Rattle.acyclic.specs.Forms.{verdictIn, aloneOf, rangedOf, countedOf, countedAsOf, negativeOf, four, frontBytes};
+ghost use Rattle.acyclic.specs.Forms.{verdictIn, aloneOf, rangedOf, countedOf, countedAsOf, negativeOf};
 use crate::errors::good_code1;
 use crate::errors::good_decode;
 use octets::Refusal;
-use octets::Written;
 
-pub(crate) enum Check {
+// What a form says of the bytes.
+pub enum Check {
     Fine,
     Refused(Refusal),
 }
 
-// The four bytes in front of all but idle and poll, in turn: the function number and three more.
-pub(crate) struct Front(pub(crate) u8, pub(crate) u8, pub(crate) u8, pub(crate) u8);
-
 // Fixed bytes that are free, and nothing behind them.
-pub(crate) fn alone(count: usize) -> Check
+pub fn alone(count: usize) -> Check
     ensures { λ r. ⌜ verdictIn r ≡ aloneOf count ⌝ }
 {
     if 0 < count {
@@ -30,7 +23,7 @@ pub(crate) fn alone(count: usize) -> Check
 }
 
 // The last of the fixed bytes is a length, and nothing stands behind them.
-pub(crate) fn ranged(length: u8, count: usize) -> Check
+pub fn ranged(length: u8, count: usize) -> Check
     ensures { λ r. ⌜ verdictIn r ≡ rangedOf length count ⌝ }
 {
     if 0 < count {
@@ -43,7 +36,7 @@ pub(crate) fn ranged(length: u8, count: usize) -> Check
 }
 
 // Data stand behind the fixed bytes, so many at least.
-pub(crate) fn counted(least: usize, count: usize) -> Check
+pub fn counted(least: usize, count: usize) -> Check
     ensures { λ r. ⌜ verdictIn r ≡ countedOf least count ⌝ }
 {
     if count < least {
@@ -66,7 +59,7 @@ pub(crate) fn counted_as(length: u8, least: usize, count: usize) -> Check
 }
 
 // A negative answer's bytes, and nothing behind them.
-pub(crate) fn negative(decode: u8, code1: u8, count: usize) -> Check
+pub fn negative(decode: u8, code1: u8, count: usize) -> Check
     ensures { λ r. ⌜ verdictIn r ≡ negativeOf decode code1 count ⌝ }
 {
     if 0 < count {
@@ -79,76 +72,4 @@ pub(crate) fn negative(decode: u8, code1: u8, count: usize) -> Check
         return Check::Refused(Refusal { number: 28 });
     }
     Check::Fine
-}
-
-fn put(front: Front, out: &mut [u8]) -> usize
-    requires { ⌜ 4 ≤ length (now out) ⌝ }
-    ensures { λ r. ⌜ AtFront (frontBytes front) (now (out .entry)) (now (out .exit)) r ⌝ }
-{
-    out[0] = front.0;
-    out[1] = front.1;
-    out[2] = front.2;
-    out[3] = front.3;
-    4
-}
-
-// Writes the four bytes and a part that may stand behind them.
-fn store(front: Front, part: &[u8], out: &mut [u8]) -> Written
-    ensures answer { λ r. ⌜ r ≡ answerBy fine (frontBytes front ++ now (part .entry)) (length (now (out .entry))) ⌝ }
-    ensures bytes { λ _. ⌜ now (out .exit) ≡ heldBy fine (frontBytes front ++ now (part .entry)) (now (out .entry)) ⌝ }
-{
-    if out.len() < 4 + part.len() {
-        return Written::Refused(11);
-    }
-    let n = put(front, out);
-    Written::Stored(octets::store_behind(n, part, out))
-}
-
-// Writes the four bytes and the part, if the check on them let them stand.
-pub(crate) fn write_four(check: Check, front: Front, part: &[u8], out: &mut [u8]) -> Written
-    ensures answer { λ r. ⌜ r ≡ answerBy (verdictIn check) (frontBytes front ++ now (part .entry)) (length (now (out .entry))) ⌝ }
-    ensures bytes { λ _. ⌜ now (out .exit) ≡ heldBy (verdictIn check) (frontBytes front ++ now (part .entry)) (now (out .entry)) ⌝ }
-{
-    match check {
-        Check::Refused(refusal) => Written::Refused(refusal.number),
-        Check::Fine => store(front, part, out),
-    }
-}
-
-// Writes the four bytes, the last of them the count of the part, and the part.
-pub(crate) fn write_counted(
-    number: u8,
-    slot: u8,
-    index: u8,
-    least: usize,
-    part: &[u8],
-    out: &mut [u8],
-) -> Written
-    ensures answer { λ r. ⌜ r ≡ answerBy (countedOf least (length (now (part .entry)))) (four number slot index (length (now (part .entry))) ++ now (part .entry)) (length (now (out .entry))) ⌝ }
-    ensures bytes { λ _. ⌜ now (out .exit) ≡ heldBy (countedOf least (length (now (part .entry)))) (four number slot index (length (now (part .entry))) ++ now (part .entry)) (now (out .entry)) ⌝ }
-{
-    let check = counted(least, part.len());
-    match check {
-        Check::Refused(refusal) => Written::Refused(refusal.number),
-        Check::Fine => {
-            let length = part.len() as u8;
-            let front = Front(number, slot, index, length);
-            store(front, part, out)
-        }
-    }
-}
-
-// Writes a number that stands alone.
-pub(crate) fn write_bare(number: u8, part: &[u8], out: &mut [u8]) -> Written
-    ensures answer { λ r. ⌜ r ≡ answerBy (aloneOf (length (now (part .entry)))) ((number ∷ []) ++ now (part .entry)) (length (now (out .entry))) ⌝ }
-    ensures bytes { λ _. ⌜ now (out .exit) ≡ heldBy (aloneOf (length (now (part .entry)))) ((number ∷ []) ++ now (part .entry)) (now (out .entry)) ⌝ }
-{
-    if 0 < part.len() {
-        return Written::Refused(20);
-    }
-    if out.len() < 1 {
-        return Written::Refused(11);
-    }
-    out[0] = number;
-    Written::Stored(1)
 }

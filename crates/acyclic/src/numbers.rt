@@ -1,7 +1,7 @@
 // Function numbers, the first byte of a call or an answer: which are allowed in which way. How each is
 // read and written stands with the calls and the answers.
 ghost use mathlib.Core.Path.{_≡_};
-ghost use Rattle.acyclic.specs.Numbers.{allowedInCalls, allowedInAnswers, negativeNumber};
+ghost use Rattle.acyclic.specs.Numbers.{allowedInCalls, allowedInAnswers};
 
 // The functions that have a negative answer.
 pub enum Function {
@@ -37,17 +37,5 @@ pub(crate) fn allowed_in_answers(number: u8) -> bool
         0xDC => true,
         0xD1 => true,
         _ => false,
-    }
-}
-
-// The number of a function's negative answer: its own plus 80 hex.
-pub(crate) fn negative_number(function: Function) -> u8
-    ensures { λ r. ⌜ r ≡ negativeNumber function ⌝ }
-{
-    match function {
-        Function::Read => 0x80 + 0x5E,
-        Function::Write => 0x80 + 0x5F,
-        Function::AlarmAck => 0x80 + 0x5C,
-        Function::Transport => 0x80 + 0x51,
     }
 }

@@ -58,8 +58,11 @@ fn write_case(case: Case, part: &[u8], out: &mut [u8], stored: &mut usize) -> u8
     ensures count { λ _. ⌜ now (stored .exit) ≡ countAfter (answerOf case (now (part .entry)) (length (now (out .entry)))) (now (stored .entry)) ⌝ }
 {
     match case {
-        Case::Call(call) => store_count(acyclic::write_call(call, part, out), stored),
-        Case::Answer(answer) => store_count(acyclic::write_answer(answer, part, out), stored),
+        Case::Call(call) => store_count(acyclic_writer::write_call(call, part, out), stored),
+        Case::Answer(answer) => store_count(
+            acyclic_writer::write_answer(answer, part, out),
+            stored,
+        ),
         Case::Unknown => 28,
     }
 }

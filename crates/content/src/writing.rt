@@ -28,7 +28,7 @@ pub fn write_call(content: Content, part: &[u8], out: &mut [u8]) -> Written
 {
     match content {
         Content::DataExchange => write_at_most(244, part, out),
-        Content::Dpv1Call(call) => acyclic::write_call(call, part, out),
+        Content::Dpv1Call(call) => acyclic_writer::write_call(call, part, out),
         Content::Dpv1Answer(_) => Written::Refused(10),
         Content::ExtUserPrm => write_at_most(244, part, out),
         Content::SetSlaveAdr(fields) => control::write_address_change(fields, part, out),
@@ -51,7 +51,7 @@ pub fn write_answer(content: Content, part: &[u8], out: &mut [u8]) -> Written
     match content {
         Content::DataExchange => write_at_most(244, part, out),
         Content::Dpv1Call(_) => Written::Refused(10),
-        Content::Dpv1Answer(answer) => acyclic::write_answer(answer, part, out),
+        Content::Dpv1Answer(answer) => acyclic_writer::write_answer(answer, part, out),
         Content::ExtUserPrm => Written::Refused(10),
         Content::SetSlaveAdr(_) => Written::Refused(10),
         Content::RdInp => write_at_most(244, part, out),

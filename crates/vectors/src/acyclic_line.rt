@@ -85,7 +85,7 @@ pub(crate) fn call_line(bytes: &[u8], out: &mut [u8]) {
             text(b"0");
             call_words(call);
             call_place(call, start, len);
-            let written = acyclic::write_call(call, octets::part(bytes, start, len), out);
+            let written = acyclic_writer::write_call(call, octets::part(bytes, start, len), out);
             again(written, out);
             text(b"\n");
         }
@@ -176,7 +176,11 @@ pub(crate) fn answer_line(bytes: &[u8], out: &mut [u8]) {
             text(b"0");
             answer_words(answer);
             answer_place(answer, start, len);
-            let written = acyclic::write_answer(answer, octets::part(bytes, start, len), out);
+            let written = acyclic_writer::write_answer(
+                answer,
+                octets::part(bytes, start, len),
+                out,
+            );
             again(written, out);
             text(b"\n");
         }
@@ -184,7 +188,7 @@ pub(crate) fn answer_line(bytes: &[u8], out: &mut [u8]) {
 }
 
 fn written_call(call: Call, data: &[u8], out: &mut [u8]) {
-    let written = acyclic::write_call(call, data, out);
+    let written = acyclic_writer::write_call(call, data, out);
     stored(written, out);
 }
 
@@ -224,7 +228,7 @@ pub(crate) fn call_fields(fields: &[u8], out: &mut [u8]) {
 }
 
 fn written_answer(answer: Answer, data: &[u8], out: &mut [u8]) {
-    let written = acyclic::write_answer(answer, data, out);
+    let written = acyclic_writer::write_answer(answer, data, out);
     stored(written, out);
 }
 

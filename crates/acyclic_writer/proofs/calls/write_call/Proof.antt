@@ -1,15 +1,15 @@
--- `acyclic::calls::write_call` meets its contract. Each case is written in the form that its definition names.
+-- `acyclic_writer::calls::write_call` meets its contract. Each case is written in the form that its definition names.
 use mathlib.Core.Path.{_≡_, refl}
 use mathlib.Core.List.{[]}
 use native.Mathlib.Omega.{arith}
 use denote.Ref.{now}
 use borrow.Author.Tests.{lt-ltb}
 use Rattle.octets.specs.Front.{refused, stored}
 use Rattle.acyclic.specs.Forms.{aloneOf}
 use Rattle.acyclic.specs.Lemmas.Forms.{no-bytes}
 use borrow.Author.Needs.{needs}
-use Rattle.acyclic.proofs.calls.write_call.Statement.{statement}
-use Rattle.acyclic.proofs.calls.write_call.Tie as tie
+use Rattle.acyclic_writer.proofs.calls.write_call.Statement.{statement}
+use Rattle.acyclic_writer.proofs.calls.write_call.Tie as tie
 
 enum-told : tie.Need-enum-told
 enum-told c = search needs

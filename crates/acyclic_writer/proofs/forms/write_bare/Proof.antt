@@ -1,4 +1,4 @@
--- `acyclic::forms::write_bare` meets its contract. Where the part is empty, the number is all bytes.
+-- `acyclic_writer::forms::write_bare` meets its contract. Where the part is empty, the number is all bytes.
 use mathlib.Core.Path.{_≡_}
 use mathlib.Core.List.{[], _∷_}
 use native.Mathlib.Omega.{arith}
@@ -6,10 +6,10 @@ use denote.Ref.{now}
 use borrow.Author.Needs.{needs}
 use borrow.Author.Tests.{lt-ltb}
 use Rattle.octets.specs.Front.{refused, too-small, stored, stores}
 use Rattle.acyclic.specs.Forms.{aloneOf}
 use Rattle.acyclic.specs.Lemmas.Forms.{no-bytes}
-use Rattle.acyclic.proofs.forms.write_bare.Statement.{statement}
-use Rattle.acyclic.proofs.forms.write_bare.Tie as tie
+use Rattle.acyclic_writer.proofs.forms.write_bare.Statement.{statement}
+use Rattle.acyclic_writer.proofs.forms.write_bare.Tie as tie
 
 -- where nothing may follow, nothing does
 none : (c : tie.Else1) → now (c .before .args .part) ≡ []

@@ -1,7 +1,7 @@
--- `acyclic::answers::write_answer` meets its contract. Each case is written in the form that its definition names.
+-- `acyclic_writer::answers::write_answer` meets its contract. Each case is written in the form that its definition names.
 use borrow.Author.Needs.{needs}
-use Rattle.acyclic.proofs.answers.write_answer.Statement.{statement}
-use Rattle.acyclic.proofs.answers.write_answer.Tie as tie
+use Rattle.acyclic_writer.proofs.answers.write_answer.Statement.{statement}
+use Rattle.acyclic_writer.proofs.answers.write_answer.Tie as tie
 
 enum-known-answer : tie.Need-enum-known-answer
 enum-known-answer c = search needs

@@ -1,9 +1,9 @@
--- `acyclic::numbers::negative_number` meets its contract, case by case.
+-- `acyclic_writer::numbers::negative_number` meets its contract, case by case.
 use mathlib.Core.Path.{sym, ap}
 use borrow.Author.Needs.{needs}
 use Rattle.acyclic.specs.Numbers.{negativeNumber}
-use Rattle.acyclic.proofs.numbers.negative_number.Statement.{statement}
-use Rattle.acyclic.proofs.numbers.negative_number.Tie as tie
+use Rattle.acyclic_writer.proofs.numbers.negative_number.Statement.{statement}
+use Rattle.acyclic_writer.proofs.numbers.negative_number.Tie as tie
 
 enum-told : tie.Need-enum-told
 enum-told c = search needs

@@ -1,4 +1,4 @@
--- `acyclic::forms::store` meets its contract. Four and the part's length are all bytes.
+-- `acyclic_writer::forms::store` meets its contract. Four and the part's length are all bytes.
 use mathlib.Core.Path.{_≡_}
 use mathlib.Core.List.{List, _++_}
 use Prim.Native.Nat.{ℕ, _+_, _≤_}
@@ -7,9 +7,9 @@ use lib.ListN.{length, length-append}
 use denote.Ref.{now}
 use borrow.Author.Needs.{needs}
 use Rattle.octets.specs.Front.{too-small, stored, both-stored}
-use Rattle.acyclic.specs.Forms.{frontBytes}
-use Rattle.acyclic.proofs.forms.store.Statement.{statement}
-use Rattle.acyclic.proofs.forms.store.Tie as tie
+use Rattle.acyclic_writer.specs.Forms.{frontBytes}
+use Rattle.acyclic_writer.proofs.forms.store.Statement.{statement}
+use Rattle.acyclic_writer.proofs.forms.store.Tie as tie
 
 -- the bytes to be written
 abbrev bytesAt : tie.Start → List ℕ

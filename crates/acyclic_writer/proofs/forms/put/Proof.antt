@@ -1,11 +1,11 @@
--- `acyclic::forms::put` meets its contract. Four bytes are stored in turn.
+-- `acyclic_writer::forms::put` meets its contract. Four bytes are stored in turn.
 use native.Mathlib.Omega.{arith}
 use lib.ListN.{length-set}
 use borrow.Author.Needs.{needs}
 use Rattle.octets.specs.Front.{stores}
-use Rattle.acyclic.specs.Forms.{frontBytes}
-use Rattle.acyclic.proofs.forms.put.Statement.{statement}
-use Rattle.acyclic.proofs.forms.put.Tie as tie
+use Rattle.acyclic_writer.specs.Forms.{frontBytes}
+use Rattle.acyclic_writer.proofs.forms.put.Statement.{statement}
+use Rattle.acyclic_writer.proofs.forms.put.Tie as tie
 
 slice-write-out : tie.Need-slice-write-out
 slice-write-out c = search needs

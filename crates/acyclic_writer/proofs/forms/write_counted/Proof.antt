@@ -1,4 +1,4 @@
--- `acyclic::forms::write_counted` meets its contract. The check has the verdict, by which the count fits its byte.
+-- `acyclic_writer::forms::write_counted` meets its contract. The check has the verdict, by which the count fits its byte.
 use mathlib.Core.Path.{_≡_, sym, ap, _∙_}
 use mathlib.Core.List.{_++_}
 use native.Mathlib.Omega.{arith}
@@ -6,10 +6,10 @@ use lib.ListN.{length}
 use denote.Ref.{now}
 use borrow.Author.Needs.{needs}
 use Rattle.octets.specs.Front.{fine, refused}
 use Rattle.acyclic.specs.Forms.{verdictIn, countedOf, four}
 use Rattle.acyclic.specs.Lemmas.Forms.{counted-within}
-use Rattle.acyclic.proofs.forms.write_counted.Statement.{statement}
-use Rattle.acyclic.proofs.forms.write_counted.Tie as tie
+use Rattle.acyclic_writer.proofs.forms.write_counted.Statement.{statement}
+use Rattle.acyclic_writer.proofs.forms.write_counted.Tie as tie
 
 -- where the check came out fine
 good : (c : tie.After-enum-told) → let a = c .before .before .before .before .before .args in countedOf (a .least) (length (now (a .part))) ≡ fine

@@ -1,11 +1,11 @@
--- `acyclic::forms::write_four` meets its contract. The check has the verdict.
+-- `acyclic_writer::forms::write_four` meets its contract. The check has the verdict.
 use mathlib.Core.List.{_++_}
 use denote.Ref.{now}
 use borrow.Author.Needs.{needs}
 use Rattle.octets.specs.Front.{refused}
-use Rattle.acyclic.specs.Forms.{frontBytes}
-use Rattle.acyclic.proofs.forms.write_four.Statement.{statement}
-use Rattle.acyclic.proofs.forms.write_four.Tie as tie
+use Rattle.acyclic_writer.specs.Forms.{frontBytes}
+use Rattle.acyclic_writer.proofs.forms.write_four.Statement.{statement}
+use Rattle.acyclic_writer.proofs.forms.write_four.Tie as tie
 
 enum-known-check : tie.Need-enum-known-check
 enum-known-check c = search needs

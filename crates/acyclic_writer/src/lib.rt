@@ -1,0 +1,9 @@
+// Writing calls and answers of DPV1 (document 01, "DPV1"), held to the definitions of the crate acyclic,
+// which reads them.
+mod answers;
+mod calls;
+mod forms;
+mod numbers;
+
+pub use answers::write_answer;
+pub use calls::write_call;
