@@ -4,9 +4,9 @@ use Prim.Native.Nat.{ℕ, _%_}
 use mathlib.Core.Bool.{Bool, true, false}
 use lib.Dec.{eqb}
 use Rattle.octets.specs.Choice.{pick}
-use Rattle.fdl.specs.Code.{classOf}
-use Rattle.fdl.specs.declared.code.Class.{Class}
-use Rattle.fdl.specs.declared.code.Class.the-variants as class
+use Rattle.function_code.specs.Code.{classOf}
+use Rattle.function_code.specs.declared.code.Class.{Class}
+use Rattle.function_code.specs.declared.code.Class.the-variants as class
 use Rattle.fdl.specs.declared.telegram.Header.{Header}
 use Rattle.fdl.specs.declared.telegram.Sap.{Sap}
 use Rattle.fdl.specs.declared.telegram.Sap.the-variants.{Absent, Present}

@@ -5,9 +5,9 @@ use crate::table::Found;
 use crate::table::Service;
 use crate::table::find;
 use crate::table::points_of;
-use fdl::Class;
 use fdl::Header;
 use fdl::Sap;
+use function_code::Class;
 
 // The service that a telegram's access points name.
 enum Named {
@@ -55,7 +55,7 @@ fn uncounted_kind(fc: u8) -> Kind
 fn kind_of(fc: u8) -> Kind
     ensures { λ r. ⌜ r ≡ kindOf fc ⌝ }
 {
-    let class = fdl::class_of(fc);
+    let class = function_code::class_of(fc);
     match class {
         Class::Opening => Kind::Call,
         Class::Counted => Kind::Call,

@@ -6,7 +6,7 @@ use native.Mathlib.Omega.{arith}
 use lib.ListN.{length}
 use Rattle.octets.specs.Part.{partOf, part-short}
 use Rattle.octets.specs.declared.Mode.{Mode}
-use Rattle.fdl.specs.Code.{classOf}
+use Rattle.function_code.specs.Code.{classOf}
 use Rattle.fdl.specs.Laws.{data-inside}
 use Rattle.fdl.specs.Reading as telegram
 use Rattle.fdl.specs.declared.telegram.Format.{Format}

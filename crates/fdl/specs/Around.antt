@@ -7,7 +7,7 @@ use native.Mathlib.Omega.{arith}
 use lib.ListN.{length, take, drop, replicate, length-append, length-drop, length-replicate}
 use lib.Seq.{length-take-le, take-append-le, take-append-seam, drop-at}
 use Rattle.octets.specs.Choice.{_and_}
-use Rattle.fdl.specs.Code.{classOf}
+use Rattle.function_code.specs.Code.{classOf}
 use Rattle.fdl.specs.Telegram.{sapLength}
 use Rattle.fdl.specs.Writing.{sapBytes, addressBytes, userStart, goodLength, goodHeader}
 use Rattle.fdl.specs.Lemmas.Fields.{pdu-large}

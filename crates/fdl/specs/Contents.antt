@@ -6,7 +6,7 @@ use Rattle.octets.specs.Part.{partOf}
 use Rattle.octets.specs.Front.{Verdict, fine, fault}
 use Rattle.fdl.specs.Reading.{readBy}
 use Rattle.fdl.specs.Writing.{telegramOf, tokenBytes, confirmationBytes, verdictBy, tokenVerdict}
-use Rattle.fdl.specs.declared.code.Class.{Class}
+use Rattle.function_code.specs.declared.code.Class.{Class}
 use Rattle.fdl.specs.declared.telegram.Format.{Format}
 use Rattle.fdl.specs.declared.telegram.Header.{Header}
 use Rattle.fdl.specs.declared.reading.Reading.{Reading}

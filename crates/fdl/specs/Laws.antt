@@ -11,7 +11,8 @@ use Rattle.octets.specs.Choice.{never}
 use Rattle.octets.specs.Bytes.{Bytes}
 use Rattle.octets.specs.Front.{fine}
 use Rattle.octets.specs.Fixed.{fault-fine}
-use Rattle.fdl.specs.Code.{classOf}
+use Rattle.function_code.specs.Code.{classOf}
+use Rattle.function_code.specs.Laws.{start-byte-reserved}
 use Rattle.fdl.specs.Reading.{readBy, readOf}
 use Rattle.fdl.specs.Writing.{telegramOf, userStart, tokenVerdict, verdictBy}
 use Rattle.fdl.specs.Contents.{Contents, nothing, confirmation, token, telegram, contentsIn, contentsOf, bytesFor, verdictFor, accepted, isToken}
@@ -23,8 +24,8 @@ use Rattle.fdl.specs.Lemmas.Back.{fields-back, user-back, token-back, co
 use Rattle.fdl.specs.Lemmas.Again.{fine-again, same-again}
 use Rattle.fdl.specs.Lemmas.Changed.{changed}
 use Rattle.fdl.specs.Lemmas.Long.{first-bytes}
-use Rattle.fdl.specs.declared.code.Class.{Class}
-use Rattle.fdl.specs.declared.code.Class.the-variants.{Reserved}
+use Rattle.function_code.specs.declared.code.Class.{Class}
+use Rattle.function_code.specs.declared.code.Class.the-variants.{Reserved}
 use Rattle.fdl.specs.declared.telegram.Format.{Format}
 use Rattle.fdl.specs.declared.telegram.Header.{Header}
 use Rattle.fdl.specs.declared.reading.Reading.{Reading}
@@ -98,10 +99,6 @@ module _ (classes : ℕ → Class) where
 
 -- ---- by our classes, in which 68 hex is reserved
 
-pub our-68-reserved : classOf 0x68 ≡ Reserved
-unfolding classOf
-our-68-reserved = refl
-
 pub our-one-byte-changed : (s : List ℕ) → Bytes s → accepted (readOf s) ≡ true → isToken (readOf s) ≡ false
     → (i v : ℕ) → i < length s → v < 256 → (v ≡ getD s i 0 → ⊥) → accepted (readOf (set s i v)) ≡ false
-our-one-byte-changed = one-byte-changed classOf our-68-reserved
+our-one-byte-changed = one-byte-changed classOf start-byte-reserved

@@ -1,5 +1,3 @@
-pub mod Code
-pub mod Totals
 pub mod Telegram
 pub mod Reading
 pub mod Writing

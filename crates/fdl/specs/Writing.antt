@@ -6,9 +6,9 @@ use lib.ListN.{length}
 use lib.Dec.{eqb, leb}
 use Rattle.octets.specs.Choice.{pick, _and_}
 use Rattle.octets.specs.Front.{Verdict, fine, fault}
-use Rattle.fdl.specs.Code.{classOf, isReserved}
+use Rattle.function_code.specs.Code.{classOf, isReserved}
 use Rattle.fdl.specs.Telegram.{checksumOf, sapLength}
-use Rattle.fdl.specs.declared.code.Class.{Class}
+use Rattle.function_code.specs.declared.code.Class.{Class}
 use Rattle.fdl.specs.declared.telegram.Format.{Format}
 use Rattle.fdl.specs.declared.telegram.Format.the-variants.{Sd1, Sd2, Sd3}
 use Rattle.fdl.specs.declared.telegram.Header.{Header}

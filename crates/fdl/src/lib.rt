@@ -1,13 +1,8 @@
-// PROFIBUS data link (FDL) telegrams: function codes and reading (document 01, "Telegram layouts" and
-// "Function codes"), and the definitions and laws of both ways; the crate framing writes.
-mod code;
+// PROFIBUS data link (FDL) telegrams: reading (document 01, "Telegram layouts"), and the definitions and
+// laws of both ways; the crate framing writes.
 mod reading;
-mod table;
 mod telegram;
 
-pub use code::Class;
-pub use code::class_of;
-pub use code::reserved;
 pub use reading::Reading;
 pub use reading::read;
 pub use telegram::Format;

@@ -2,14 +2,14 @@
 ghost use mathlib.Core.Path.{_≡_};
 ghost use Prim.Native.Nat.{_+_, _≤_};
 ghost use lib.ListN.{length};
-ghost use Rattle.fdl.specs.Code.{classOf};
+ghost use Rattle.function_code.specs.Code.{classOf};
 ghost use Rattle.fdl.specs.Reading.{extensionOf, sourceOf, destinationOf, fieldsOf, framedOf, sd2Of, tokenOf, readOf};
-use crate::code::reserved;
 use crate::telegram::Format;
 use crate::telegram::Header;
 use crate::telegram::Sap;
 use crate::telegram::checksum;
 use crate::telegram::sap_length;
+use function_code::reserved;
 use octets::Refusal;
 
 // What bytes are. The user data of a telegram are the len bytes from start, which `octets::part`

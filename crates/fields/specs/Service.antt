@@ -8,9 +8,9 @@ use lib.ListN.{getD, take, replicate}
 use lib.Dec.{eqb}
 use Rattle.octets.specs.Choice.{pick}
 use Rattle.octets.specs.Number.{numberOf}
-use Rattle.fdl.specs.Code.{classOf}
-use Rattle.fdl.specs.declared.code.Class.{Class}
-use Rattle.fdl.specs.declared.code.Class.the-variants as class
+use Rattle.function_code.specs.Code.{classOf}
+use Rattle.function_code.specs.declared.code.Class.{Class}
+use Rattle.function_code.specs.declared.code.Class.the-variants as class
 use Rattle.control.specs.Address as address
 use Rattle.control.specs.Command as command
 use Rattle.control.specs.declared.address.AddressChange.{AddressChange}

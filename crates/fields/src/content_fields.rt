@@ -1,7 +1,7 @@
 // A service's own fields, and which content such fields name.
 ghost use mathlib.Core.Path.{_≡_};
 ghost use mathlib.Core.List.{_∷_};
-ghost use Rattle.fdl.specs.Code.{classOf};
+ghost use Rattle.function_code.specs.Code.{classOf};
 ghost use Rattle.parameters.specs.Writing.{statusBytes};
 ghost use Rattle.fields.specs.Dpv1.{fourBytes};
 ghost use Rattle.fields.specs.Service.{ownBytes, placesOf, ownFields, isAnswer, namedBy, dpv1In, diagnosisIn, extensionIn, parametersIn, contentIn};
@@ -15,7 +15,7 @@ use content::Content;
 use control::AddressChange;
 use control::GlobalCommand;
 use diagnosis::Header;
-use fdl::Class;
+use function_code::Class;
 use parameters::BitTimes;
 use parameters::Extension;
 use parameters::Parameters;
@@ -139,7 +139,7 @@ pub enum Named {
 fn is_answer(fc: u8) -> bool
     ensures { λ r. ⌜ r ≡ isAnswer (classOf fc) ⌝ }
 {
-    let class = fdl::class_of(fc);
+    let class = function_code::class_of(fc);
     match class {
         Class::Opening => false,
         Class::Counted => false,

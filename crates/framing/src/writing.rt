@@ -4,7 +4,7 @@ ghost use mathlib.Core.List.{_++_};
 ghost use Prim.Native.Nat.{_+_, _≤_};
 ghost use lib.ListN.{length, take, drop};
 ghost use Rattle.octets.specs.Front.{AtFront, fine, answerBy, heldBy};
-ghost use Rattle.fdl.specs.Code.{classOf};
+ghost use Rattle.function_code.specs.Code.{classOf};
 ghost use Rattle.fdl.specs.Telegram.{sapLength};
 ghost use Rattle.fdl.specs.Writing.{goodSap, goodHeader, goodLength, startBytes, sapBytes, addressBytes, coreOf, endBytes, closedOf, telegramOf, userStart, verdictOf, tokenBytes, tokenVerdict, confirmationBytes};
 ghost use Rattle.fdl.specs.Around.{userIn, headBytes, goodFields};
@@ -12,8 +12,8 @@ use fdl::Format;
 use fdl::Header;
 use fdl::Sap;
 use fdl::checksum;
-use fdl::reserved;
 use fdl::sap_length;
+use function_code::reserved;
 use octets::Written;
 
 fn good_sap(sap: Sap) -> bool

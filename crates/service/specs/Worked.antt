@@ -3,11 +3,11 @@ use Prim.Native.Nat.{ℕ}
 use mathlib.Core.Path.{_≡_, refl}
 use mathlib.Core.List.{List, [], _∷_}
 use Rattle.octets.specs.declared.Refusal.{Refusal}
-use Rattle.fdl.specs.Code.{classOf}
+use Rattle.function_code.specs.Code.{classOf}
 use Rattle.fdl.specs.Reading as telegram
 use Rattle.fdl.specs.Reading.{extensionOf, sourceOf, destinationOf, tokenOf, fieldsOf, framedOf, sd2Of, readBy}
 use Rattle.fdl.specs.Telegram.{checksumOf}
-use Rattle.fdl.specs.declared.code.Class.the-variants.{Uncounted}
+use Rattle.function_code.specs.declared.code.Class.the-variants.{Uncounted}
 use Rattle.fdl.specs.declared.telegram.Format.the-variants.{Sd1}
 use Rattle.fdl.specs.declared.telegram.Sap.the-variants.{Absent}
 use Rattle.fdl.specs.declared.reading.Reading.the-variants.{Confirmation, Token, Telegram, Refused}

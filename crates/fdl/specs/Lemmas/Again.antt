@@ -18,7 +18,7 @@ use Rattle.fdl.specs.Writing.{startBytes, sapBytes, addressBytes, coreOf
 use Rattle.fdl.specs.Lemmas.Extends.{Extends, none, one, within}
 use Rattle.fdl.specs.Lemmas.Reads.{Starts, Frames, headerIn}
 use Rattle.fdl.specs.Lemmas.Fields.{core-length}
-use Rattle.fdl.specs.declared.code.Class.{Class}
+use Rattle.function_code.specs.declared.code.Class.{Class}
 use Rattle.fdl.specs.declared.telegram.Format.{Format}
 use Rattle.fdl.specs.declared.telegram.Header.{Header}
 use Rattle.fdl.specs.declared.telegram.Sap.{Sap}

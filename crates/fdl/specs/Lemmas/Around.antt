@@ -9,7 +9,7 @@ use lib.Seq.{length-take-le, drop-drop}
 use borrow.Author.Tests.{le-leb}
 use Rattle.octets.specs.Choice.{and-left, and-right}
 use Rattle.octets.specs.Front.{heldBehind, fine, fault}
-use Rattle.fdl.specs.Code.{classOf}
+use Rattle.function_code.specs.Code.{classOf}
 use Rattle.fdl.specs.Telegram.{sapLength}
 use Rattle.fdl.specs.Writing.{startBytes, sapBytes, addressBytes, coreOf, telegramOf, userStart, goodLength, goodHeader, verdictBy, verdictOf}
 use Rattle.fdl.specs.Around.{userIn, headBytes, goodFields, user-inside, user-stored}

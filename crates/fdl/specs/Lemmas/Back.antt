@@ -12,14 +12,14 @@ use lib.Dec.{leb}
 use Rattle.octets.specs.Choice.{_and_, and-left, and-right}
 use Rattle.octets.specs.Part.{partOf}
 use Rattle.octets.specs.Front.{fine}
-use Rattle.fdl.specs.Code.{isReserved}
+use Rattle.function_code.specs.Code.{isReserved}
 use Rattle.fdl.specs.Telegram.{checksumOf, sapLength}
 use Rattle.fdl.specs.Reading.{tokenOf, readBy}
 use Rattle.fdl.specs.Writing.{startBytes, sapBytes, addressBytes, coreOf, endBytes, closedOf, telegramOf, userStart, tokenBytes, confirmationBytes, goodSap, pduLength, tokenVerdict}
 use Rattle.fdl.specs.Lemmas.Extends.{Extends, none, one}
 use Rattle.fdl.specs.Lemmas.Reads.{Starts, Frames, headerIn, telegram-read}
 use Rattle.fdl.specs.Lemmas.Fields.{Writable, fine-true, sap-small, sap-bytes-length, start-length, core-length, telegram-length}
-use Rattle.fdl.specs.declared.code.Class.{Class}
+use Rattle.function_code.specs.declared.code.Class.{Class}
 use Rattle.fdl.specs.declared.telegram.Format.{Format}
 use Rattle.fdl.specs.declared.telegram.Header.{Header}
 use Rattle.fdl.specs.declared.telegram.Sap.{Sap}

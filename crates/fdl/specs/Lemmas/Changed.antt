@@ -12,14 +12,14 @@ use lib.Dec.{eqb, leb}
 use borrow.Author.Tests.{eqb-true, eqb-false, not-true}
 use Rattle.octets.specs.Choice.{and-left, never}
 use Rattle.octets.specs.Bytes.{Bytes}
-use Rattle.fdl.specs.Code.{isReserved}
+use Rattle.function_code.specs.Code.{isReserved}
 use Rattle.fdl.specs.Telegram.{sumOf, checksumOf}
 use Rattle.fdl.specs.Writing.{startBytes, goodLength, confirmationBytes}
 use Rattle.fdl.specs.Contents.{accepted, isToken}
 use Rattle.fdl.specs.Lemmas.Reads.{Starts, Frames, Reads, confirmation, token, telegram, refusal, start-byte}
 use Rattle.fdl.specs.Lemmas.Fields.{start-some}
-use Rattle.fdl.specs.declared.code.Class.{Class}
-use Rattle.fdl.specs.declared.code.Class.the-variants.{Reserved}
+use Rattle.function_code.specs.declared.code.Class.{Class}
+use Rattle.function_code.specs.declared.code.Class.the-variants.{Reserved}
 use Rattle.fdl.specs.declared.telegram.Format.{Format}
 use Rattle.fdl.specs.declared.telegram.Format.the-variants.{Sd1, Sd2, Sd3}
 use Rattle.fdl.specs.declared.telegram.Sap.{Sap}

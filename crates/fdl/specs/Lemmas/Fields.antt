@@ -10,10 +10,10 @@ use borrow.Author.Tests.{leb-true, eqb-true, lt-leb, ne-eqb, not-true}
 use Rattle.octets.specs.Choice.{pick, _and_, and-left, and-right}
 use Rattle.octets.specs.Front.{fine, fault}
 use Rattle.octets.specs.Fixed.{fault-fine}
-use Rattle.fdl.specs.Code.{isReserved}
+use Rattle.function_code.specs.Code.{isReserved}
 use Rattle.fdl.specs.Telegram.{sapLength}
 use Rattle.fdl.specs.Writing.{startBytes, sapBytes, coreOf, telegramOf, goodSap, pduLength, goodLength, goodHeader, verdictBy}
-use Rattle.fdl.specs.declared.code.Class.{Class}
+use Rattle.function_code.specs.declared.code.Class.{Class}
 use Rattle.fdl.specs.declared.telegram.Format.{Format}
 use Rattle.fdl.specs.declared.telegram.Format.the-variants.{Sd1, Sd2, Sd3}
 use Rattle.fdl.specs.declared.telegram.Header.{Header}

@@ -12,12 +12,12 @@ use borrow.Author.Tests.{le-ltb, le-leb, leb-true, eq-eqb, ne-eqb, ltb-false, eq
 use Rattle.octets.specs.Choice.{by-pick, and-left, and-right}
 use Rattle.octets.specs.Elements.{part-elements, rest-elements}
 use Rattle.octets.specs.declared.Refusal.{Refusal}
-use Rattle.fdl.specs.Code.{isReserved}
+use Rattle.function_code.specs.Code.{isReserved}
 use Rattle.fdl.specs.Telegram.{checksumOf, sapLength}
 use Rattle.fdl.specs.Reading.{extensionOf, withSource, sourceOf, withDestination, destinationOf, tokenOf, fieldsOf, framedOf, sd2Of, readBy}
 use Rattle.fdl.specs.Writing.{startBytes, tokenBytes, confirmationBytes, goodLength}
 use Rattle.fdl.specs.Lemmas.Extends.{Extends, Found, found, reads-extension}
-use Rattle.fdl.specs.declared.code.Class.{Class}
+use Rattle.function_code.specs.declared.code.Class.{Class}
 use Rattle.fdl.specs.declared.telegram.Format.{Format}
 use Rattle.fdl.specs.declared.telegram.Format.the-variants.{Sd1, Sd2, Sd3}
 use Rattle.fdl.specs.declared.telegram.Header.{Header}

@@ -9,7 +9,7 @@ use Rattle.octets.specs.Bytes.{Bytes}
 use Rattle.octets.specs.Front.{fine}
 use Rattle.octets.specs.Part.{partOf, part-short}
 use Rattle.octets.specs.declared.Mode.{Mode}
-use Rattle.fdl.specs.Code.{classOf}
+use Rattle.function_code.specs.Code.{classOf}
 use Rattle.fdl.specs.Contents.{contentsIn, accepted}
 use Rattle.fdl.specs.Laws as telegram-laws
 use Rattle.fdl.specs.Reading as telegram

@@ -8,7 +8,7 @@ use Rattle.octets.specs.Front.{Verdict, fine, fault}
 use Rattle.octets.specs.Fixed.{judged, fault-fine}
 use Rattle.octets.specs.Part.{partOf}
 use Rattle.octets.specs.declared.Mode.{Mode}
-use Rattle.fdl.specs.Code.{classOf}
+use Rattle.function_code.specs.Code.{classOf}
 use Rattle.fdl.specs.Contents.{Contents, nothing, confirmation, token, contentsIn}
 use Rattle.fdl.specs.Contents as carried
 use Rattle.fdl.specs.Laws as telegram-laws

@@ -3,7 +3,7 @@ use mathlib.Core.Path.{_≡_, refl, sym, ap, _∙_}
 use mathlib.Core.List.{List, _∷_, []}
 use Prim.Native.Nat.{ℕ, _+_, _≤_}
 use native.Mathlib.Omega.{arith}
-use Rattle.fdl.specs.Code.{classOf}
+use Rattle.function_code.specs.Code.{classOf}
 use Rattle.fdl.specs.Reading.{readOf}
 use Rattle.fdl.specs.Laws.{data-inside}
 use Rattle.fdl.specs.declared.reading.Reading.{Reading}

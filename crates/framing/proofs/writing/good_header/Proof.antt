@@ -3,7 +3,7 @@ use mathlib.Core.Path.{_≡_, sym, _∙_}
 use borrow.Author.Needs.{needs}
 use borrow.Author.Tests.{le-leb, lt-leb, not-true, not-false}
 use Rattle.octets.specs.Choice.{_and_}
-use Rattle.fdl.specs.Code.{classOf}
+use Rattle.function_code.specs.Code.{classOf}
 use Rattle.fdl.specs.Writing.{goodSap, goodHeader}
 use Rattle.framing.proofs.writing.good_header.Statement.{statement}
 use Rattle.framing.proofs.writing.good_header.Tie as tie

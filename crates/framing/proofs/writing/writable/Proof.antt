@@ -5,7 +5,7 @@ use Prim.Native.Nat.{ℕ, _+_}
 use native.Mathlib.Omega.{arith}
 use borrow.Author.Needs.{needs}
 use borrow.Author.Tests.{not-true, not-false}
-use Rattle.fdl.specs.Code.{classOf}
+use Rattle.function_code.specs.Code.{classOf}
 use Rattle.fdl.specs.Telegram.{sapLength}
 use Rattle.fdl.specs.Writing.{goodHeader, goodLength}
 use Rattle.fdl.specs.Lemmas.Fields.{sap-small, pdu-large}

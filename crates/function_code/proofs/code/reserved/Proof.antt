@@ -1,10 +1,10 @@
--- `fdl::code::reserved` meets its contract, by what `class_number` ensures.
+-- `function_code::code::reserved` meets its contract, by what `class_number` ensures.
 use mathlib.Core.Path.{ap}
 use Prim.Native.Nat.{ℕ}
 use lib.Dec.{eqb}
 use borrow.Author.Needs.{needs}
-use Rattle.fdl.proofs.code.reserved.Statement.{statement}
-use Rattle.fdl.proofs.code.reserved.Tie as tie
+use Rattle.function_code.proofs.code.reserved.Statement.{statement}
+use Rattle.function_code.proofs.code.reserved.Tie as tie
 
 class-number-requires : tie.Need-class-number-requires
 class-number-requires c κs = search needs

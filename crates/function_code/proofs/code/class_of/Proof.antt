@@ -1,11 +1,11 @@
--- `fdl::code::class_of` meets its contract: each arm answers the class that its number names.
+-- `function_code::code::class_of` meets its contract: each arm answers the class that its number names.
 use mathlib.Core.Path.{_≡_, ap, sym, _∙_}
 use borrow.Author.Tests.{ne-eqb}
-use Rattle.fdl.specs.Code.{classOf}
-use Rattle.fdl.proofs.Classes.{named, named-number}
+use Rattle.function_code.specs.Code.{classOf}
+use Rattle.function_code.proofs.Classes.{named, named-number}
 use borrow.Author.Needs.{needs}
-use Rattle.fdl.proofs.code.class_of.Statement.{statement}
-use Rattle.fdl.proofs.code.class_of.Tie as tie
+use Rattle.function_code.proofs.code.class_of.Statement.{statement}
+use Rattle.function_code.proofs.code.class_of.Tie as tie
 
 is-named : (c : tie.After-class-number) → named (c .class-number .result) ≡ classOf (c .before .args .fc)
 is-named c = ap named (c .class-number .ensures) ∙ named-number (classOf (c .before .args .fc))

@@ -1,10 +1,10 @@
--- `fdl::table::row` meets its contract: each row of the table is, computed, that of the rule.
+-- `function_code::table::row` meets its contract: each row of the table is, computed, that of the rule.
 use mathlib.Core.Path.{_≡_, sym, ap}
 use Prim.Native.Nat.{ℕ, zero, suc, _≤_, zero-le}
 use native.Mathlib.Omega.{arith}
-use Rattle.fdl.specs.Code.{classOf, rowOf}
-use Rattle.fdl.proofs.table.row.Statement.{statement}
-use Rattle.fdl.proofs.table.row.Tie as tie
+use Rattle.function_code.specs.Code.{classOf, rowOf}
+use Rattle.function_code.proofs.table.row.Statement.{statement}
+use Rattle.function_code.proofs.table.row.Tie as tie
 
 -- a number that is none of the first n is n or more
 abbrev Past : (n x : ℕ) → Type 0

@@ -1,7 +1,7 @@
 // The table of function code classes, and its look-up.
 ghost use mathlib.Core.Path.{_≡_};
 ghost use Prim.Native.Nat.{_<_};
-ghost use Rattle.fdl.specs.Code.{classOf, classNumber, rowOf};
+ghost use Rattle.function_code.specs.Code.{classOf, classNumber, rowOf};
 
 // The class numbers of the 256 function codes, a hexadecimal digit each: 0 opening, 1 counted, 2
 // uncounted, 3 bare, 4 data, 5 reserved. A row has the codes with one high digit; the entry of low

@@ -1,8 +1,8 @@
--- `fdl::table::class_number` meets its contract, by the rule of the table.
-use Rattle.fdl.proofs.Classes.{entry}
+-- `function_code::table::class_number` meets its contract, by the rule of the table.
+use Rattle.function_code.proofs.Classes.{entry}
 use borrow.Author.Needs.{needs}
-use Rattle.fdl.proofs.table.class_number.Statement.{statement}
-use Rattle.fdl.proofs.table.class_number.Tie as tie
+use Rattle.function_code.proofs.table.class_number.Statement.{statement}
+use Rattle.function_code.proofs.table.class_number.Tie as tie
 
 row-requires : tie.Need-row-requires
 row-requires c κs = search needs

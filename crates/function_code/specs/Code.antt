@@ -5,8 +5,8 @@ use mathlib.Core.Bool.{Bool, false}
 use mathlib.Core.List.{List, [], _∷_}
 use lib.Dec.{eqb}
 use Rattle.octets.specs.Choice.{pick, _and_, _or_}
-use Rattle.fdl.specs.declared.code.Class.{Class}
-use Rattle.fdl.specs.declared.code.Class.the-variants.{Opening, Counted, Uncounted, Bare, Data, Reserved}
+use Rattle.function_code.specs.declared.code.Class.{Class}
+use Rattle.function_code.specs.declared.code.Class.the-variants.{Opening, Counted, Uncounted, Bare, Data, Reserved}
 
 abbrev pub oneOf : ℕ → List ℕ → Bool
 oneOf x [] = false

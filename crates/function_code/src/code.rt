@@ -1,6 +1,6 @@
 // Function codes: every byte has one class.
 ghost use mathlib.Core.Path.{_≡_};
-ghost use Rattle.fdl.specs.Code.{classOf, isReserved};
+ghost use Rattle.function_code.specs.Code.{classOf, isReserved};
 use crate::table::class_number;
 
 // What kind of telegram a function code makes. An opening call starts the count of a pair of

@@ -7,9 +7,9 @@ use native.Mathlib.Omega.{arith}
 use lib.Dec.{eqb}
 use borrow.Author.Tests.{eqb-true}
 use Rattle.octets.specs.Choice.{pick, _and_, and-left, and-right}
-use Rattle.fdl.specs.Code.{classOf, classNumber, rowOf}
-use Rattle.fdl.specs.declared.code.Class.{Class}
-use Rattle.fdl.specs.declared.code.Class.the-variants.{Opening, Counted, Uncounted, Bare, Data, Reserved}
+use Rattle.function_code.specs.Code.{classOf, classNumber, rowOf}
+use Rattle.function_code.specs.declared.code.Class.{Class}
+use Rattle.function_code.specs.declared.code.Class.the-variants.{Opening, Counted, Uncounted, Bare, Data, Reserved}
 
 -- a test that passes at every number below n passes at each
 everyBelow : (n : ℕ) → (ℕ → Bool) → Bool
