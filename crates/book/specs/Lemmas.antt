@@ -1,0 +1,6 @@
+pub mod Pairs
+pub mod Good
+pub mod Parts
+pub mod Fit
+pub mod Entries
+pub mod Found

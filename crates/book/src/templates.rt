@@ -1,0 +1,32 @@
+// Finding one template of a book.
+ghost use mathlib.Core.Path.{_≡_};
+ghost use Rattle.book.specs.Template.{templateOf};
+use crate::answers::Reading;
+use crate::answers::Template;
+use crate::reading::read;
+use crate::table::sum_before;
+use octets::Refusal;
+
+// Template k of a book, counted from 1. A k that the book does not have is the caller's fault.
+pub fn template(bytes: &[u8], k: usize) -> Template
+    ensures { λ r. ⌜ r ≡ templateOf (now (bytes .entry)) k ⌝ }
+{
+    let reading = read(bytes);
+    match reading {
+        Reading::Refused(refusal) => Template::Refused(refusal),
+        Reading::Book { count } => {
+            if k < 1 {
+                return Template::Refused(Refusal { number: 12 });
+            }
+            if count < k {
+                return Template::Refused(Refusal { number: 12 });
+            }
+            let before = sum_before(bytes, k - 1);
+            Template::Is {
+                slot: bytes[2 * k - 1],
+                start: 1 + 2 * count + before,
+                len: bytes[2 * k] as usize,
+            }
+        }
+    }
+}
