@@ -1,0 +1,16 @@
+pub mod Read
+pub mod Replies
+pub mod Hearing
+pub mod Slots
+pub mod Runs
+pub mod Groups
+pub mod Chain
+pub mod Ours
+pub mod Follows
+pub mod Meets
+pub mod Means
+pub mod Stored
+pub mod Shape
+pub mod Ends
+pub mod Opening
+pub mod Accepted

@@ -1,0 +1,44 @@
+-- What the printer does with a counted call that is new to it, and with the same call once more.
+use Prim.Native.Nat.{ℕ}
+use mathlib.Core.Path.{_≡_, refl}
+use mathlib.Core.Bool.{Bool, true, false, not}
+use mathlib.Core.List.{List}
+use lib.ListN.{length, getD, take, drop}
+use lib.Seq.{take-append-seam}
+use borrow.Author.Tests.{eq-eqb}
+use Rattle.octets.specs.Front.{over}
+use Rattle.protocol.specs.Bits.{sameBit}
+use Rattle.protocol.specs.Printer.{Ask, counted, receivedOf, Deed, perform, Station, isRepeat, replyBytes, newCall, hear}
+use Rattle.protocol.specs.Download.{Given, hears}
+
+-- a reply that was stored is what is sent
+pub stored-sent : (r buffer : List ℕ) → take (length r) (over r buffer) ≡ r
+stored-sent r buffer = take-append-seam r (drop (length r) buffer)
+
+pub same-bit : (b : Bool) → sameBit b b ≡ true
+same-bit true = refl
+same-bit false = refl
+
+pub other-bit : (b : Bool) → sameBit (not b) b ≡ false
+other-bit true = refl
+other-bit false = refl
+
+module _ (g : Given) where
+  -- what a new call does at the station x
+  abbrev pub deedAt : Station → Ask → Deed
+  deedAt x ask = perform (x .printer .boarding) (getD (g .notYet) (x .printer .writes) 0) (x .printer .pending) (x .slots) (x .printer .writes) ask
+
+  abbrev pub renewedAt : Station → (fcb : Bool) (sa : ℕ) → Ask → Station
+  renewedAt x fcb sa ask = newCall (g .diagnosis) x fcb sa (deedAt x ask) .station
+
+  abbrev pub replyAt : Station → (sa : ℕ) → Ask → List ℕ
+  replyAt x sa ask = replyBytes (g .diagnosis) (x .printer .address) sa (deedAt x ask .reply)
+
+  module _ (x : Station) (s : List ℕ) (fcb : Bool) (sa : ℕ) (ask : Ask) (call : receivedOf (x .printer .address) s ≡ counted fcb sa ask) where
+    pub new-heard : isRepeat (x .printer) fcb sa ≡ false → hears g x s ≡ record { state = renewedAt x fcb sa ask; reply = replyAt x sa ask }
+    unfolding hear
+    new-heard new = rw (call, new, stored-sent (replyAt x sa ask) (x .buffer))
+
+    pub again-heard : hears g (renewedAt x fcb sa ask) s ≡ record { state = renewedAt x fcb sa ask; reply = replyAt x sa ask }
+    unfolding hear
+    again-heard = rw (call, eq-eqb sa sa refl, same-bit fcb, stored-sent (replyAt x sa ask) (x .buffer))

@@ -1,0 +1,17 @@
+pub mod Bits
+pub mod Slots
+pub mod Telegrams
+pub mod Printer
+pub mod Line
+pub mod Controller
+pub mod Download
+pub mod Words
+pub mod Endings
+pub mod Course
+pub mod PrinterLaws
+pub mod Lemmas
+pub mod Demand
+pub mod Theorem
+pub mod Worked
+pub mod ReplyLaws
+pub mod ControllerLaws

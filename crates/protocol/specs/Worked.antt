@@ -1,0 +1,129 @@
+-- The worked download of document 01, computed, and the same at a boarding printer: demand 3 applies to both.
+use Prim.Native.Nat.{ℕ}
+use mathlib.Core.Path.{_≡_, refl}
+use mathlib.Core.Bool.{Bool, true, false}
+use mathlib.Core.List.{List, [], _∷_}
+use lib.ListN.{getD, replicate}
+use Rattle.octets.specs.Front.{fine, heldBehind}
+use Rattle.octets.specs.Part.{partOf}
+use Rattle.function_code.specs.Code.{classOf}
+use Rattle.fdl.specs.Reading.{extensionOf, sourceOf, destinationOf, tokenOf, fieldsOf, framedOf, sd2Of, readBy}
+use Rattle.fdl.specs.Telegram.{checksumOf}
+use Rattle.fdl.specs.Writing.{coreOf, telegramOf}
+use Rattle.diagnosis.specs.Block.{goodCode, channelOf, foundBy}
+use Rattle.diagnosis.specs.Reading as diagnosis
+use Rattle.diagnosis.specs.Reading.{goodStatus1, goodStatus2, goodMaster, blocksIn, extDiagAgrees, judge}
+use Rattle.access.specs.Route.{kindOf, headerOf, routeOf}
+use Rattle.access.specs.Table.{services, look, rowAt}
+use Rattle.acyclic.specs.Answers as answers
+use Rattle.acyclic.specs.Calls as calls
+use Rattle.acyclic.specs.Errors.{namedIn, goodCode1}
+use Rattle.acyclic.specs.Forms.{aloneOf, rangedOf, countedOf, countedAsOf, negativeOf, byNumber, whereAllowed}
+use Rattle.content.specs.Reading.{emptyOf, callOf, answerOf}
+use Rattle.content.specs.Writing.{bytesFor}
+use Rattle.service.specs.Reading.{readOf}
+use Rattle.service.specs.Writing.{telegramFor}
+use Rattle.book.specs.Reading as book
+use Rattle.book.specs.Table.{pairOf, tableOf}
+use Rattle.protocol.specs.Line as line
+use Rattle.protocol.specs.Line.{Sending, stop}
+use Rattle.protocol.specs.Slots.{Slot, slotIn}
+use Rattle.protocol.specs.Printer as printer-step
+use Rattle.protocol.specs.Printer.{askIn, receivedOf, hear, Station}
+use Rattle.protocol.specs.Controller.{gotIn, moveOf, settingsVerdict}
+use Rattle.protocol.specs.Download.{Given, Config, given, passagesOf, sendings, bound, download, lineVerdict, verdictOf}
+use Rattle.protocol.specs.Demand.{Demand3}
+use Rattle.protocol.specs.Theorem.{download-holds}
+use Rattle.protocol.specs.declared.controller.Ending.the-variants as ending
+use Rattle.protocol.specs.declared.controller.Settings.{Settings}
+use Rattle.protocol.specs.declared.printer.Pending.the-variants as pending
+
+abbrev settings : Settings
+settings = record { printer = 7; controller = 2; repeats = 1; polls = 2 }
+
+abbrev bookBytes : List ℕ
+bookBytes = 0x01 ∷ 0x07 ∷ 0x03 ∷ 0x41 ∷ 0x42 ∷ 0x43 ∷ []
+
+-- through, request lost, through, through, reply lost, through
+abbrev lineBytes : List ℕ
+lineBytes = 0 ∷ 1 ∷ 0 ∷ 0 ∷ 2 ∷ 0 ∷ []
+
+-- the worked diagnosis
+abbrev diag : List ℕ
+diag = 0x08 ∷ 0x0C ∷ 0x00 ∷ 0x02 ∷ 0x12 ∷ 0x34 ∷ 0x82 ∷ 0x43 ∷ 0x26 ∷ []
+
+abbrev station : (boarding : Bool) → Station
+station b =
+    record {
+      printer = record {
+        address = 7;
+        boarding = b;
+        fcb = false;
+        sa = 255;
+        held = 0;
+        pending = pending.Nothing;
+        writes = 9;
+      };
+      slots = record { lengths = replicate 16 0; bodies = replicate 3200 0 };
+      buffer = replicate 255 0;
+    }
+
+abbrev world : Given
+world = given settings bookBytes (1 ∷ []) diag
+
+-- the function codes of the sendings
+abbrev codes : List Sending → List ℕ
+codes [] = []
+codes (s ∷ l) = getD (s .request) 6 0 ∷ codes l
+
+module _ (boarding : Bool) where
+  abbrev final : Config
+  final = download world (passagesOf lineBytes) (station boarding)
+
+  abbrev slot7 : Slot
+  slot7 = slotIn (final .printer .slots) 7
+
+  -- nothing of it is refused
+  abbrev Taken : Type 0
+  Taken = verdictOf settings bookBytes lineBytes diag (station boarding) (replicate 255 0) ≡ fine
+
+pub record Rows : Type 0 where
+  pub taken : (b : Bool) → Taken b
+  pub within : bound world ≡ 7
+  -- not boarding: done after 6 sendings, one write performed, slot seven with the body in front
+  pub codes-sent : codes (sendings world (passagesOf lineBytes) (station false) 7) ≡ 0x6D ∷ 0x5C ∷ 0x5C ∷ 0x7C ∷ 0x5C ∷ 0x5C ∷ []
+  pub done : final false .move ≡ stop ending.Done
+  pub sent : final false .sent ≡ 6
+  pub once : final false .printer .printer .writes ≡ 1
+  pub stored : slot7 false ≡ record { len = 3; bytes = 0x41 ∷ 0x42 ∷ 0x43 ∷ replicate 197 0 }
+  -- boarding: slot seven is guarded, and stays as it was
+  pub refused : final true .move ≡ stop (ending.Refused 1 0xB6 0)
+  pub refused-sent : final true .sent ≡ 6
+  pub refused-once : final true .printer .printer .writes ≡ 1
+  pub kept : slot7 true ≡ record { len = 0; bytes = replicate 200 0 }
+
+pub worked-download : Rows
+unfolding line.run line.transcript partOf classOf extensionOf sourceOf destinationOf tokenOf fieldsOf framedOf sd2Of readBy checksumOf coreOf telegramOf goodCode channelOf foundBy goodStatus1 goodStatus2 goodMaster blocksIn extDiagAgrees judge diagnosis.readOf kindOf headerOf routeOf services look rowAt answers.readAnswerOf answers.fourOf answers.negativeBy calls.readCallOf calls.fourOf namedIn goodCode1 aloneOf rangedOf countedOf countedAsOf negativeOf byNumber whereAllowed emptyOf callOf answerOf bytesFor readOf telegramFor heldBehind printer-step.judge askIn receivedOf hear gotIn moveOf download settingsVerdict lineVerdict verdictOf printer-step.verdictOf book.readOf book.bodiesBy tableOf pairOf
+worked-download =
+    record {
+      taken = by;
+      within = refl;
+      codes-sent = refl;
+      done = refl;
+      sent = refl;
+      once = refl;
+      stored = refl;
+      refused = refl;
+      refused-sent = refl;
+      refused-once = refl;
+      kept = refl;
+    }
+  where
+    by : (b : Bool) → Taken b
+    by true = refl
+    by false = refl
+
+-- Demand 3 applies to both.
+pub applies : (b : Bool) → Demand3 world (passagesOf lineBytes) (station b)
+applies b =
+    download-holds settings bookBytes lineBytes (1 ∷ []) diag (station b) (replicate 255 0) (record { lengths = refl; bodies = refl }) (worked-download .taken b)
