@@ -8,10 +8,8 @@ pub mod Download
 pub mod Words
 pub mod Endings
 pub mod Course
-pub mod PrinterLaws
-pub mod Lemmas
 pub mod Demand
+pub mod Lemmas
 pub mod Theorem
 pub mod Worked
-pub mod ReplyLaws
-pub mod ControllerLaws
+pub mod MachineLaws

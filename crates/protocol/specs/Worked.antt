@@ -26,7 +26,7 @@ use Rattle.service.specs.Writing.{telegramFor}
 use Rattle.book.specs.Reading as book
 use Rattle.book.specs.Table.{pairOf, tableOf}
 use Rattle.protocol.specs.Line as line
-use Rattle.protocol.specs.Line.{Sending, stop}
+use Rattle.protocol.specs.Line.{Sending, through, stop}
 use Rattle.protocol.specs.Slots.{Slot, slotIn}
 use Rattle.protocol.specs.Printer as printer-step
 use Rattle.protocol.specs.Printer.{askIn, receivedOf, hear, Station}
@@ -71,6 +71,10 @@ station b =
 abbrev world : Given
 world = given settings bookBytes (1 ∷ []) diag
 
+-- a sending, counted from 0
+abbrev sendingAt : (i : ℕ) → Sending
+sendingAt i = getD (sendings world (passagesOf lineBytes) (station false) 7) i (record { request = []; passage = through; reply = [] })
+
 -- the function codes of the sendings
 abbrev codes : List Sending → List ℕ
 codes [] = []
@@ -96,6 +100,16 @@ pub record Rows : Type 0 where
   pub sent : final false .sent ≡ 6
   pub once : final false .printer .printer .writes ≡ 1
   pub stored : slot7 false ≡ record { len = 3; bytes = 0x41 ∷ 0x42 ∷ 0x43 ∷ replicate 197 0 }
+  -- its telegrams: the opening and the diagnosis, the write and its result
+  pub opening : sendingAt 0 .request ≡ 0x68 ∷ 0x05 ∷ 0x05 ∷ 0x68 ∷ 0x87 ∷ 0x82 ∷ 0x6D ∷ 0x3C ∷ 0x3E ∷ 0xF0 ∷ 0x16 ∷ []
+  pub diagnosis-back : sendingAt 0 .reply
+      ≡ 0x68 ∷ 0x0E ∷ 0x0E ∷ 0x68 ∷ 0x82 ∷ 0x87 ∷ 0x08 ∷ 0x3E ∷ 0x3C ∷ 0x08 ∷ 0x0C ∷ 0x00 ∷ 0x02 ∷ 0x12 ∷ 0x34 ∷ 0x82 ∷ 0x43 ∷ 0x26 ∷ 0xD2 ∷ 0x16 ∷ []
+  pub write : sendingAt 2 .request
+      ≡ 0x68 ∷ 0x0C ∷ 0x0C ∷ 0x68 ∷ 0x87 ∷ 0x82 ∷ 0x5C ∷ 0x33 ∷ 0x33 ∷ 0x5F ∷ 0x01 ∷ 0x07 ∷ 0x03 ∷ 0x41 ∷ 0x42 ∷ 0x43 ∷ 0xFB ∷ 0x16 ∷ []
+  pub result-back : sendingAt 5 .reply ≡ 0x68 ∷ 0x09 ∷ 0x09 ∷ 0x68 ∷ 0x82 ∷ 0x87 ∷ 0x08 ∷ 0x33 ∷ 0x33 ∷ 0x5F ∷ 0x01 ∷ 0x07 ∷ 0x03 ∷ 0xE1 ∷ 0x16 ∷ []
+  -- with no entry at all each sending goes through
+  pub missing-entries : codes (sendings world [] (station false) 7) ≡ 0x6D ∷ 0x5C ∷ 0x7C ∷ 0x5C ∷ []
+  pub missing-done : download world [] (station false) .move ≡ stop ending.Done
   -- boarding: slot seven is guarded, and stays as it was
   pub refused : final true .move ≡ stop (ending.Refused 1 0xB6 0)
   pub refused-sent : final true .sent ≡ 6
@@ -113,6 +127,12 @@ worked-download =
       sent = refl;
       once = refl;
       stored = refl;
+      opening = refl;
+      diagnosis-back = refl;
+      write = refl;
+      result-back = refl;
+      missing-entries = refl;
+      missing-done = refl;
       refused = refl;
       refused-sent = refl;
       refused-once = refl;

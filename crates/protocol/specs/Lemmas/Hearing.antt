@@ -1,4 +1,4 @@
--- What the printer does with a counted call that is new to it, and with the same call once more.
+-- What the printer does with bytes that are no call, with a counted call that is new to it, and with the same call once more.
 use Prim.Native.Nat.{ℕ}
 use mathlib.Core.Path.{_≡_, refl}
 use mathlib.Core.Bool.{Bool, true, false, not}
@@ -7,9 +7,33 @@ use lib.ListN.{length, getD, take, drop}
 use lib.Seq.{take-append-seam}
 use borrow.Author.Tests.{eq-eqb}
 use Rattle.octets.specs.Front.{over}
+use Rattle.function_code.specs.Code.{classOf}
+use Rattle.fdl.specs.Reading as telegram
+use Rattle.fdl.specs.declared.reading.Reading as telegram-type
+use Rattle.fdl.specs.declared.reading.Reading.the-variants as telegram-reading
 use Rattle.protocol.specs.Bits.{sameBit}
-use Rattle.protocol.specs.Printer.{Ask, counted, receivedOf, Deed, perform, Station, isRepeat, replyBytes, newCall, hear}
+use Rattle.protocol.specs.Printer.{Ask, nothing, counted, isCall, receivedBy, receivedOf, Deed, perform, Station, isRepeat, replyBytes, newCall, hear}
 use Rattle.protocol.specs.Download.{Given, hears}
+
+-- ---- what is no call
+
+abbrev pub isCallOf : telegram-type.Reading → Bool
+isCallOf telegram-reading.Confirmation = false
+isCallOf (telegram-reading.Token da sa) = false
+isCallOf (telegram-reading.Telegram f h start len) = isCall (classOf (h .fc))
+isCallOf (telegram-reading.Refused r) = false
+
+no-call : (address : ℕ) (s : List ℕ) (r : telegram-type.Reading) → isCallOf r ≡ false → receivedBy address s r ≡ nothing
+no-call address s telegram-reading.Confirmation e = refl
+no-call address s (telegram-reading.Token da sa) e = refl
+no-call address s (telegram-reading.Telegram f h start len) e = rw e
+no-call address s (telegram-reading.Refused r) e = refl
+
+-- Bytes that framing refuses, tokens, SC and answers change nothing and get nothing.
+pub not-a-call : (diag : List ℕ) (notYet : ℕ) (s : List ℕ) (x : Station) → isCallOf (telegram.readOf s) ≡ false
+    → hear diag notYet s x ≡ record { station = x; reply = 0 }
+unfolding hear receivedOf
+not-a-call diag notYet s x e = rw (no-call (x .printer .address) s (telegram.readOf s) e)
 
 -- a reply that was stored is what is sent
 pub stored-sent : (r buffer : List ℕ) → take (length r) (over r buffer) ≡ r

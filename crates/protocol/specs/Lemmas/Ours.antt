@@ -22,9 +22,8 @@ use Rattle.protocol.specs.Controller.{nothing, gotFrom, gotIn, Move, req
 use Rattle.protocol.specs.Download.{Given, hears, steps}
 use Rattle.protocol.specs.Words.{anyOf, arrives, heard, namesStation, isWriteAsk, asked, requestsIn, writesHeard, FramingRefuses}
 use Rattle.protocol.specs.Course.{exchange, meets, leaves, oneArrives}
-use Rattle.protocol.specs.PrinterLaws.{isCallOf, not-a-call}
 use Rattle.protocol.specs.Lemmas.Replies.{got-nothing}
-use Rattle.protocol.specs.Lemmas.Hearing.{other-bit, renewedAt, replyAt, new-heard, again-heard}
+use Rattle.protocol.specs.Lemmas.Hearing.{isCallOf, not-a-call, other-bit, renewedAt, replyAt, new-heard, again-heard}
 use Rattle.protocol.specs.Lemmas.Runs.{at, Ignores, Request, request-run, request-sendings, request-printer}
 use Rattle.protocol.specs.Lemmas.Groups.{AllOf, exchange-all, take-all-of, Block, block-in}
 use Rattle.protocol.specs.Lemmas.Chain.{Link}

@@ -7,37 +7,15 @@ use lib.Dec.{eqb, ltb}
 use lib.ListN.{length}
 use borrow.Author.Tests.{eq-eqb, ltb-false}
 use Rattle.octets.specs.Choice.{pick, by-pick, never}
-use Rattle.function_code.specs.Code.{classOf}
-use Rattle.fdl.specs.Reading as telegram
-use Rattle.fdl.specs.declared.reading.Reading as telegram-type
-use Rattle.fdl.specs.declared.reading.Reading.the-variants as telegram-reading
 use Rattle.protocol.specs.Slots.{Slots, slotIn, written, Sized}
 use Rattle.protocol.specs.Lemmas.Slots.{slot-kept}
 use Rattle.protocol.specs.Lemmas.Hearing.{same-bit}
-use Rattle.protocol.specs.Printer.{Ask, slaveDiag, write, poll, unknown, undecodable, Received, nothing, elsewhere, status, uncounted, opening, counted, isCall, receivedBy, receivedOf, guarded, judge, slotsAfter, perform, Station, Heard, isRepeat, newCall, heardBy, hear}
+-- bytes that are no call change nothing and get nothing
+pub use Rattle.protocol.specs.Lemmas.Hearing.{isCallOf, not-a-call}
+use Rattle.protocol.specs.Printer.{Ask, slaveDiag, write, poll, unknown, undecodable, Received, nothing, elsewhere, status, uncounted, opening, counted, receivedOf, guarded, judge, slotsAfter, perform, Station, Heard, isRepeat, newCall, heardBy, hear}
 use Rattle.protocol.specs.declared.printer.Outcome.the-variants as outcome
 use Rattle.protocol.specs.declared.printer.Pending.{Pending}
 use Rattle.protocol.specs.declared.printer.Pending.the-variants as pending
-
--- ---- what is no call
-
-abbrev pub isCallOf : telegram-type.Reading → Bool
-isCallOf telegram-reading.Confirmation = false
-isCallOf (telegram-reading.Token da sa) = false
-isCallOf (telegram-reading.Telegram f h start len) = isCall (classOf (h .fc))
-isCallOf (telegram-reading.Refused r) = false
-
-no-call : (address : ℕ) (s : List ℕ) (r : telegram-type.Reading) → isCallOf r ≡ false → receivedBy address s r ≡ nothing
-no-call address s telegram-reading.Confirmation e = refl
-no-call address s (telegram-reading.Token da sa) e = refl
-no-call address s (telegram-reading.Telegram f h start len) e = rw e
-no-call address s (telegram-reading.Refused r) e = refl
-
--- Bytes that framing refuses, tokens, SC and answers change nothing and get nothing.
-pub not-a-call : (diag : List ℕ) (notYet : ℕ) (s : List ℕ) (x : Station) → isCallOf (telegram.readOf s) ≡ false
-    → hear diag notYet s x ≡ record { station = x; reply = 0 }
-unfolding hear receivedOf
-not-a-call diag notYet s x e = rw (no-call (x .printer .address) s (telegram.readOf s) e)
 
 -- ---- a repeat
 

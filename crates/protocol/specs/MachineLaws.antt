@@ -1,0 +1,3 @@
+pub mod Printer
+pub mod Replies
+pub mod Controller
