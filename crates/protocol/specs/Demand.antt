@@ -15,7 +15,7 @@ use Rattle.protocol.specs.Slots.{slotIn, filled, Sized}
 use Rattle.protocol.specs.Printer.{Station, guarded}
 use Rattle.protocol.specs.Printer as printer-step
 use Rattle.protocol.specs.Download.{Given, Config, after, sendings, bound, download}
-use Rattle.protocol.specs.Words.{anyOf, countOf, heard, answered, failed, requestsIn, requestsAt, writesHeard, writeIn, pollsIn, gotConfirmation, gotNegative, FramingRefuses}
+use Rattle.protocol.specs.Words.{anyOf, countOf, heard, answered, failed, requestsIn, requestsAt, writesHeard, writeIn, pollsIn, gotConfirmation, gotNegative, FramingRefuses, UntilAnswered}
 use Rattle.protocol.specs.Endings.{isDone, isNoOpening, isNoAnswer, isNotReady, isRefused, isStrange, stopsAt}
 use Rattle.protocol.specs.declared.controller.Ending.{Ending}
 
@@ -96,6 +96,8 @@ module _ (g : Given) (l : List Passage) (x : Station) where
     pub sent : final .sent ≡ length all
     pub entries-used : final .line ≡ drop (final .sent) l
     pub not-sooner : (m : ℕ) → m < final .sent → (e : Ending) → after g l x m .move ≡ stop e → ⊥
+    -- After the opening each request is sent until answered, R + 1 times at most.
+    pub until-answered : (n : ℕ) → n < length (drop 1 (requestsIn all)) → UntilAnswered here (g .settings .repeats) (getD (drop 1 (requestsIn all)) n [])
     -- After every number of sendings each write with a heard sending has added exactly one, from the opening's hearing on.
     pub once : (m : ℕ) → after g l x m .printer .printer .writes ≡ pick (openingHeard (sendings g l x m)) (writesHeard here (sendings g l x m)) (x .printer .writes)
     -- Done exactly when the opening was answered, no other request failed, every result was ready and none refused.

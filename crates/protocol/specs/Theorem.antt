@@ -24,18 +24,18 @@ use Rattle.content.specs.declared.fields.Content.the-variants as content
 use Rattle.protocol.specs.Telegrams.{openingCode, countedCode}
 use Rattle.protocol.specs.Controller.{askFor}
 use Rattle.protocol.specs.Download.{Given, Config, hears, steps, begin, after, sendings, bound, download, given, passagesOf, verdictOf, downloadOf}
-use Rattle.protocol.specs.Words.{anyOf, heard, answered, failed, requestsIn, byTemplate, templatesIn, requestsAt, writesHeard, writeIn, FramingRefuses}
+use Rattle.protocol.specs.Words.{anyOf, heard, answered, failed, requestsIn, byTemplate, templatesIn, requestsAt, writesHeard, writeIn, FramingRefuses, UntilAnswered}
 use Rattle.protocol.specs.Course.{Course, course}
 use Rattle.protocol.specs.Demand.{At, NotRefused, Demand3, final, all, New, Old, writeHeard}
 use Rattle.protocol.specs.Lemmas.Read.{opening-asked}
 use Rattle.protocol.specs.Lemmas.Replies.{Valid, valid}
 use Rattle.protocol.specs.Lemmas.Runs.{run-stop, transcript-add, transcript-stop, transcript-take, transcript-short, sent-counts, run-line, settles, damage-rest, asLost, damage-is-loss}
-use Rattle.protocol.specs.Lemmas.Groups.{concat, Apart, block-in, blocks-alone, templates-in}
+use Rattle.protocol.specs.Lemmas.Groups.{concat, Apart, block-in, blocks-alone, templates-in, Each, each-at}
 use Rattle.protocol.specs.Lemmas.Chain.{apart-take, chain-ran, chain-sent, chain-counts}
 use Rattle.protocol.specs.Lemmas.Accepted.{not-refused}
 use Rattle.protocol.specs.Lemmas.Ours.{ignores, next-new}
 use Rattle.protocol.specs.Lemmas.Follows.{Followed, fillAll, follows}
-use Rattle.protocol.specs.Lemmas.Means.{Says, says-none, ends-later, says, done-when}
+use Rattle.protocol.specs.Lemmas.Means.{Says, says-none, ends-later, says, done-when, course-until}
 use Rattle.protocol.specs.Lemmas.Stored.{isStored, storedIn, stored-are, unnamed, named}
 use Rattle.protocol.specs.Lemmas.Shape.{code-at, apart-turns, turns-blocks, course-turns, course-templates, course-short}
 use Rattle.protocol.specs.Lemmas.Ends.{Passed, Before, done-passed, stop-passed, regular, stored-before, none-behind}
@@ -169,6 +169,7 @@ module _ (g : Given) (l : List Passage) (x : Station) (ok : NotRefused g l x) wh
           sent = all-sent;
           entries-used = line-used;
           not-sooner = never-sooner;
+          until-answered = λ n h. absurd (let z : length (drop 1 (requestsIn (all g l x))) ≡ 0 = rw (closed-all, one-request) in omega arith);
           once = closed-once;
           done = rw (closed-all, u .unanswered);
           no-opening = rw (closed-all, u .unanswered);
@@ -362,6 +363,9 @@ module _ (g : Given) (l : List Passage) (x : Station) (ok : NotRefused g l x) wh
     written-there : (i : ℕ) → writeHeard g l x (suc i) ≡ true → (anyOf (heard here) (writeIn (getD (ideal .requests) i [])) and true) ≡ true
     written-there i w = let e : anyOf (heard here) (writeIn (getD (ideal .requests) i [])) ≡ true = rw (requests-at i) at w in rw e
 
+    each-until : Each (UntilAnswered (g .settings .printer) (g .settings .repeats)) blocks
+    each-until = course-until (g .settings) board (g .notYet) (ok .printer) (ok .controller) (ok .some-polls) 0 0 false (g .book) (restOf l) (ok .in-order) rest-damage
+
     performed : Demand3 g l x
     performed =
         let r = regular (g .settings) board (g .notYet) (ok .printer) (ok .controller) (ok .some-polls) 0 false (g .book) (restOf l) in
@@ -372,6 +376,8 @@ module _ (g : Given) (l : List Passage) (x : Station) (ok : NotRefused g l x) wh
           sent = all-sent;
           entries-used = line-used;
           not-sooner = never-sooner;
+          until-answered = λ n h.
+              rw (requests-are, ours) (each-at (UntilAnswered (g .settings .printer) (g .settings .repeats)) blocks [] each-until n (rw requests-are at h));
           once = opened-once;
           done = rw (requests-are, all-is, first-answered, ours)
               (done-when (g .settings) board (g .notYet) (ok .printer) (ok .controller) (ok .some-polls) 0 0 false (g .book) (restOf l) (ok .in-order) rest-damage);

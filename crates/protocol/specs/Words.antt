@@ -1,11 +1,11 @@
 -- The customer's words (document 01, "A sending is heard unless .."), over the sendings of a download alone: their bytes,
 -- what the line did, and the replies as they came back.
-use Prim.Native.Nat.{ℕ, zero, suc}
+use Prim.Native.Nat.{ℕ, zero, suc, _+_, _≤_}
 use mathlib.Core.Path.{_≡_}
 use mathlib.Core.Bool.{Bool, true, false, not}
 use mathlib.Core.List.{List, [], _∷_}
 use lib.Dec.{eqb}
-use lib.ListN.{getD, drop}
+use lib.ListN.{length, getD, drop}
 use Rattle.octets.specs.Choice.{pick, _and_, _or_}
 use Rattle.octets.specs.declared.Mode.the-variants as mode
 use Rattle.fdl.specs.Contents.{accepted}
@@ -76,6 +76,19 @@ requestsIn (s ∷ l) = joined s (requestsIn l)
 -- "failed if it never was" answered
 abbrev pub failed : (address : ℕ) → List Sending → Bool
 failed a r = not (anyOf (answered a) r)
+
+-- all its sendings but the last
+abbrev pub butLast : List Sending → List Sending
+butLast [] = []
+butLast (s ∷ []) = []
+butLast (s ∷ t ∷ r) = s ∷ butLast (t ∷ r)
+
+-- "each request is sent until answered, R + 1 times at most": only the last sending may be answered, and where none was there
+-- were R + 1
+pub record UntilAnswered (address repeats : ℕ) (r : List Sending) : Type 0 where
+  pub at-most : length r ≤ repeats + 1
+  pub only-last : anyOf (answered address) (butLast r) ≡ false
+  pub all-tried : failed address r ≡ true → length r ≡ repeats + 1
 
 -- what a request asks for, by the service reader
 abbrev pub asked : (request : List ℕ) → Ask

@@ -48,10 +48,6 @@ answered-arrived zero q r l e = by (passageOf l) e
     by (replyDamaged bytes) e = refl
 answered-arrived (suc n) q r l e = by (passageOf l) refl (answered-arrived n q r (restOf l))
   where
-    or-true : (b : Bool) → (b or true) ≡ true
-    or-true true = refl
-    or-true false = refl
-
     by : (p : Passage) → passageOf l ≡ p → (meets n (restOf l) ≡ true → oneArrives (exchange n q r (restOf l)) ≡ true) → oneArrives (exchange (suc n) q r l) ≡ true
     by through w k = rw w
     by requestLost w k = rw (w, k (rw w at e))

@@ -1,16 +1,15 @@
 -- Sendings put together again to requests, and requests to templates.
-use Prim.Native.Nat.{ℕ, zero, suc, _+_, _≤_}
-use native.Mathlib.Nat.{zero-add, suc-add}
+use Prim.Native.Nat.{ℕ, zero, suc, _≤_, _<_}
 use native.Mathlib.Omega.{arith}
 use borrow.Author.Tests.{eq-eqb}
 use mathlib.Core.Bool.{Bool, true, false}
 use mathlib.Core.List.{List, [], _∷_, _++_, append-nil, append-assoc}
 use mathlib.Core.Path.{_≡_, refl, sym, ap, _∙_}
-use lib.ListN.{length, take}
-use Rattle.octets.specs.Choice.{pick, _or_, by-pick}
+use lib.ListN.{length, getD, take}
+use Rattle.octets.specs.Choice.{_or_, by-pick}
 use Rattle.protocol.specs.Line.{Passage, Sending, passageOf, restOf}
 use Rattle.protocol.specs.Course.{isThrough, exchange}
-use Rattle.protocol.specs.Words.{anyOf, countOf, sameBytes, joined, requestsIn, isWrite, firstIsWrite, byTemplate}
+use Rattle.protocol.specs.Words.{anyOf, sameBytes, joined, requestsIn, isWrite, firstIsWrite, byTemplate}
 
 -- ---- tests over two lists in a row
 
@@ -18,18 +17,10 @@ or-or : (a b c : Bool) → (a or b or c) ≡ ((a or b) or c)
 or-or true b c = refl
 or-or false b c = refl
 
-pick-add : (t : Bool) (m n : ℕ) → pick t (suc (m + n)) (m + n) ≡ pick t (suc m) m + n
-pick-add true m n = rw suc-add
-pick-add false m n = refl
-
 module _ {A : Type 0} (t : A → Bool) where
   pub any-append : (a b : List A) → anyOf t (a ++ b) ≡ (anyOf t a or anyOf t b)
   any-append [] b = refl
   any-append (x ∷ a) b = rw (any-append a b) (or-or (t x) (anyOf t a) (anyOf t b))
-
-  pub count-append : (a b : List A) → countOf t (a ++ b) ≡ countOf t a + countOf t b
-  count-append [] b = rw zero-add
-  count-append (x ∷ a) b = rw (count-append a b) (pick-add (t x) (countOf t a) (countOf t b))
 
 abbrev pub concat : {A : Type 0} → List (List A) → List A
 concat [] = []
@@ -38,6 +29,20 @@ concat (a ∷ l) = a ++ concat l
 pub concat-append : {A : Type 0} (l m : List (List A)) → concat (l ++ m) ≡ concat l ++ concat m
 concat-append [] m = refl
 concat-append (a ∷ l) m = rw (concat-append l m) (sym (append-assoc a (concat l) (concat m)))
+
+-- what holds of each of them
+abbrev pub Each : {A : Type 0} → (P : A → Type 0) → List A → Type 0
+Each P [] = Unit {0}
+Each P (a ∷ l) = P a × Each P l
+
+pub each-append : {A : Type 0} (P : A → Type 0) (l m : List A) → Each P l → Each P m → Each P (l ++ m)
+each-append P [] m h k = k
+each-append P (a ∷ l) m h k = (h .0, each-append P l m (h .1) k)
+
+pub each-at : {A : Type 0} (P : A → Type 0) (l : List A) (d : A) → Each P l → (n : ℕ) → n < length l → P (getD l n d)
+each-at P [] d h n k = absurd (omega arith)
+each-at P (a ∷ l) d h zero k = h .0
+each-at P (a ∷ l) d h (suc n) k = each-at P l d (h .1) n (omega arith)
 
 -- ---- one request
 
@@ -107,11 +112,6 @@ block-in q (s ∷ l) rest k = together q s l rest (k .same .0) (k .same .1) (k .
 abbrev pub Blocks : List (List Sending) → (t : List Sending) → Type 0
 Blocks [] t = Unit {0}
 Blocks (b ∷ rs) t = (q : List ℕ) × Block q b (concat rs ++ t) × Blocks rs t
-
-pub blocks-append : (rs ss : List (List Sending)) (t : List Sending) → Blocks rs (concat ss ++ t) → Blocks ss t → Blocks (rs ++ ss) t
-blocks-append [] ss t h k = k
-blocks-append (b ∷ rs) ss t h k =
-    (h .0, rw (concat-append rs ss, append-assoc (concat rs) (concat ss) t) (h .1), blocks-append rs ss t (h .2) k)
 
 pub blocks-in : (rs : List (List Sending)) (t : List Sending) → Blocks rs t → requestsIn (concat rs ++ t) ≡ rs ++ requestsIn t
 blocks-in [] t h = refl

@@ -23,15 +23,15 @@ use Rattle.protocol.specs.Line.{Passage, Sending, Damage}
 use Rattle.protocol.specs.Telegrams.{writeBytes, answerOf, replyCode}
 use Rattle.protocol.specs.Printer.{guarded, judge}
 use Rattle.protocol.specs.Controller.{gotIn}
-use Rattle.protocol.specs.Words.{anyOf, countOf, failed, pollsIn, isConfirmation, isNegative, gotConfirmation, gotNegative, FramingRefuses}
+use Rattle.protocol.specs.Words.{anyOf, countOf, failed, pollsIn, isConfirmation, isNegative, gotConfirmation, gotNegative, FramingRefuses, UntilAnswered}
 use Rattle.protocol.specs.Course.{meets, leaves, oneArrives, Polled, ready, late, silent, polls, polled, Course, unless, endsWith, after, afterPolls, writeOf, resultOf, course}
 use Rattle.protocol.specs.Demand.{allReady}
 use Rattle.protocol.specs.Lemmas.Runs.{damage-left}
-use Rattle.protocol.specs.Lemmas.Groups.{concat, any-append}
+use Rattle.protocol.specs.Lemmas.Groups.{concat, any-append, Each, each-append}
 use Rattle.protocol.specs.Lemmas.Follows.{verdict, judged, verdict-fine}
 use Rattle.protocol.specs.Lemmas.Read.{write-names, outcome-fine, telegram-read}
 use Rattle.protocol.specs.Lemmas.Replies.{gotOutcome, got-outcome}
-use Rattle.protocol.specs.Lemmas.Meets.{isSilent, isReady, Confirmed, failed-unmet, polls-failed, polls-negative, polls-confirmed}
+use Rattle.protocol.specs.Lemmas.Meets.{isSilent, isReady, Confirmed, failed-unmet, polls-failed, polls-negative, polls-confirmed, until-answered, polls-until}
 use Rattle.protocol.specs.declared.controller.Ending.{Ending}
 use Rattle.protocol.specs.declared.controller.Ending.the-variants as ending
 use Rattle.protocol.specs.declared.controller.Settings.{Settings}
@@ -358,3 +358,34 @@ module _ (c : Settings) (boarding : Bool) (notYet : List ℕ) (to : c .printer �
 
       came-waits : (b′ : Bool) (l′ : List Passage) → polledAs c boarding notYet i b t ts l ≡ ready b′ l′ → getD notYet i 0 < c .polls
       came-waits b′ l′ p = omega (arith, confirmed t (order .1) (order .2) (order .3) i b ts l d (ready b′ l′) p .1)
+
+  -- Each request is sent until answered.
+  pub course-until : (i m : ℕ) (b : Bool) (ts : List Entry) (l : List Passage) → InOrder m ts → Damage FramingRefuses l
+      → Each (UntilAnswered (c .printer) (c .repeats)) (concat (courseFrom i b ts l .requests))
+  unfolding course
+  course-until i m b [] l order d = tt
+  course-until i m b (t ∷ ts) l order d =
+      by-ways c boarding notYet i b t ts l (λ x. Each (UntilAnswered (c .printer) (c .repeats)) (concat (x .requests)))
+      (record {
+        unanswered = λ e. (write, tt);
+        unpolled = λ e p. whole [] tt;
+        unready = λ e p. whole [] tt;
+        refused = λ e b′ l′ p g. whole [] tt;
+        well = λ e b′ l′ p g.
+            whole (concat (courseFrom (suc i) b′ ts l′ .requests)) (course-until (suc i) (suc (t .slot)) b′ ts l′ (order .4) (onward-damage i b t ts l d b′ l′ p));
+      })
+    where
+      write : UntilAnswered (c .printer) (c .repeats) (wrote c boarding notYet i b t ts l)
+      write =
+          until-answered c (c .printer) (writeBytes (c .printer) (c .controller) b (t .slot) (t .body)) confirmationBytes
+          (write-names (c .printer) (c .controller) to from b (t .slot) (t .body) (order .2) (order .3)) confirmation-taken (c .repeats) l d
+
+      polling : Each (UntilAnswered (c .printer) (c .repeats)) (polls c (resultOf c boarding notYet t) (c .polls - 1) (getD notYet i 0) (not b) (leaves (c .repeats) l))
+      polling =
+          polls-until c to from (resultOf c boarding notYet t) (result-taken t (order .1) (order .2) (order .3)) (result-final t (order .1) (order .2) (order .3)) (c .polls - 1)
+          (getD notYet i 0) (not b) (leaves (c .repeats) l) (damage-left FramingRefuses (c .repeats) l d)
+
+      whole : (rest : List (List Sending)) → Each (UntilAnswered (c .printer) (c .repeats)) rest → Each (UntilAnswered (c .printer) (c .repeats)) (requests c boarding notYet i b t ts l ++ rest)
+      whole rest h =
+          let ps : List (List Sending) = polls c (resultOf c boarding notYet t) (c .polls - 1) (getD notYet i 0) (not b) (leaves (c .repeats) l) in
+          (write, each-append (UntilAnswered (c .printer) (c .repeats)) ps rest polling h)

@@ -1,11 +1,11 @@
 -- What the words say of one request of the course, and of the polls of a template.
-use Prim.Native.Nat.{ℕ, zero, suc, _≤_, _<_}
+use Prim.Native.Nat.{ℕ, zero, suc, _+_, _≤_, _<_}
 use native.Mathlib.Omega.{arith}
-use mathlib.Core.Path.{_≡_, refl, ap, _∙_}
+use mathlib.Core.Path.{_≡_, refl, sym, ap, _∙_}
 use mathlib.Core.Bool.{Bool, true, false, not}
 use mathlib.Core.List.{List, [], _∷_}
 use lib.ListN.{length}
-use Rattle.octets.specs.Choice.{pick, _and_, _or_, by-pick}
+use Rattle.octets.specs.Choice.{never, pick, _and_, _or_, by-pick}
 use Rattle.fdl.specs.Contents.{accepted}
 use Rattle.fdl.specs.Reading as telegram
 use Rattle.fdl.specs.Reading.{readBy}
@@ -13,11 +13,12 @@ use Rattle.fdl.specs.Writing.{confirmationBytes}
 use Rattle.protocol.specs.Line.{Passage, through, requestLost, replyLost, requestDamaged, replyDamaged, Sending, passageOf, restOf, DamagedBy, Damage}
 use Rattle.protocol.specs.Telegrams.{pollBytes}
 use Rattle.protocol.specs.Controller.{nothing, confirmation, gotIn}
-use Rattle.protocol.specs.Words.{anyOf, countOf, namesStation, heard, answered, failed, replyOf, isConfirmation, isNegative, gotConfirmation, gotNegative, isWrite, isWriteAsk, asked, FramingRefuses}
+use Rattle.protocol.specs.Words.{anyOf, countOf, namesStation, heard, answered, failed, replyOf, butLast, UntilAnswered, isConfirmation, isNegative, gotConfirmation, gotNegative, isWrite, isWriteAsk, asked, FramingRefuses}
 use Rattle.protocol.specs.Course.{isThrough, replyBy, sendingOf, exchange, meets, leaves, Polled, ready, late, silent, polls, polled}
 use Rattle.protocol.specs.Lemmas.Read.{poll-names}
 use Rattle.protocol.specs.Lemmas.Replies.{got-nothing, got-confirmation}
 use Rattle.protocol.specs.Lemmas.Runs.{damage-first, damage-rest, damage-left, exchange-short}
+use Rattle.protocol.specs.Lemmas.Groups.{Each}
 use Rattle.protocol.specs.Lemmas.Ours.{got-bad}
 use Rattle.protocol.specs.declared.controller.Settings.{Settings}
 
@@ -77,6 +78,43 @@ module _ (c : Settings) (a : ℕ) (q r : List ℕ) (names : namesStation a (tele
       by true t k = rw t (got-through (passageOf l) (damage-first FramingRefuses l d) ∙ rw t)
       by false t k = rw (t, reply-behind (sendingOf q r (passageOf l)) (exchange n q r (restOf l)) (exchange-short n q r (restOf l) .0)) k
 
+  -- only the last sending may be answered
+  behind : (s : Sending) (l : List Sending) → 1 ≤ length l → anyOf (answered a) (butLast (s ∷ l)) ≡ (answered a s or anyOf (answered a) (butLast l))
+  behind s [] h = absurd (omega arith)
+  behind s (t ∷ l) h = refl
+
+  only-last : (n : ℕ) (l : List Passage) → Damage FramingRefuses l → anyOf (answered a) (butLast (exchange n q r l)) ≡ false
+  unfolding exchange
+  only-last zero l d = refl
+  only-last (suc n) l d = by (isThrough (passageOf l)) refl (only-last n (restOf l) (damage-rest FramingRefuses l d))
+    where
+      by : (t : Bool) → isThrough (passageOf l) ≡ t → anyOf (answered a) (butLast (exchange n q r (restOf l))) ≡ false → anyOf (answered a) (butLast (exchange (suc n) q r l)) ≡ false
+      by true t k = rw t
+      by false t k =
+          rw t (behind (sendingOf q r (passageOf l)) (exchange n q r (restOf l)) (exchange-short n q r (restOf l) .0)
+          ∙ rw (answered-through (passageOf l) (damage-first FramingRefuses l d), t, k))
+
+  all-tried : (n : ℕ) (l : List Passage) → meets n l ≡ false → length (exchange n q r l) ≡ n + 1
+  unfolding exchange meets
+  all-tried zero l e = refl
+  all-tried (suc n) l e = by (isThrough (passageOf l)) refl (all-tried n (restOf l))
+    where
+      by : (t : Bool) → isThrough (passageOf l) ≡ t → (meets n (restOf l) ≡ false → length (exchange n q r (restOf l)) ≡ n + 1) → length (exchange (suc n) q r l) ≡ suc n + 1
+      by true t k = absurd (never (sym (rw t at e)))
+      by false t k = let z = k (rw t at e) in rw t (omega arith)
+
+  pub until-answered : (n : ℕ) (l : List Passage) → Damage FramingRefuses l → UntilAnswered a n (exchange n q r l)
+  until-answered n l d =
+      record {
+        at-most = exchange-short n q r l .1;
+        only-last = only-last n l d;
+        all-tried = λ f. all-tried n l (by (meets n l) (sym (failed-unmet n l d) ∙ f));
+      }
+    where
+      by : (b : Bool) → not b ≡ true → b ≡ false
+      by true h = absurd (never h)
+      by false h = refl
+
 -- ---- the polls of a template, whose result comes with the reply `result`
 
 abbrev pub isSilent : Polled → Bool
@@ -110,6 +148,9 @@ module _ (c : Settings) (to : c .printer ≤ 126) (from : c .controller ≤ 126)
   poll-got : (r : List ℕ) → accepted (telegram.readOf r) ≡ true → (b : Bool) (l : List Passage) → Damage FramingRefuses l → gotIn c (replyOf (once r b l)) ≡ pick (meets (c .repeats) l) (gotIn c r) nothing
   poll-got r e b l d = got-met c (c .printer) (pollBytes (c .printer) (c .controller) b) r (poll-names (c .printer) (c .controller) to from b) e (c .repeats) l d
 
+  poll-until : (r : List ℕ) → accepted (telegram.readOf r) ≡ true → (b : Bool) (l : List Passage) → Damage FramingRefuses l → UntilAnswered (c .printer) (c .repeats) (once r b l)
+  poll-until r e b l d = until-answered c (c .printer) (pollBytes (c .printer) (c .controller) b) r (poll-names (c .printer) (c .controller) to from b) e (c .repeats) l d
+
   -- One of them failed exactly where they ended so.
   pub polls-failed : (left wait : ℕ) (b : Bool) (l : List Passage) → Damage FramingRefuses l → anyOf (failed (c .printer)) (polls c result left wait b l) ≡ isSilent (polled c left wait b l)
   unfolding polls polled
@@ -135,10 +176,6 @@ module _ (c : Settings) (to : c .printer ≤ 126) (from : c .controller ≤ 126)
 
   -- The printer's DF came to one exactly where the result came, and is one.
   module _ (code1 code2 : ℕ) where
-    none-negative : (m : Bool) → (isNegative code1 code2 (pick m confirmation nothing) or false) ≡ false
-    none-negative true = refl
-    none-negative false = refl
-
     pub polls-negative : (left wait : ℕ) (b : Bool) (l : List Passage) → Damage FramingRefuses l
         → anyOf (gotNegative c code1 code2) (polls c result left wait b l) ≡ (isReady (polled c left wait b l) and isNegative code1 code2 (gotIn c result))
     unfolding polls polled
@@ -195,3 +232,14 @@ module _ (c : Settings) (to : c .printer ≤ 126) (from : c .controller ≤ 126)
           (let n : ℕ = countOf (gotConfirmation c) (pick m (polls c result left wait (not b) (leaves (c .repeats) l)) []) in pick (isConfirmation (pick m confirmation nothing)) (suc n) n)
       by true k = more-confirmed (polled c left wait (not b) (leaves (c .repeats) l)) left wait _ k
       by false k = omega arith
+
+  -- Each of them is sent until answered.
+  pub polls-until : (left wait : ℕ) (b : Bool) (l : List Passage) → Damage FramingRefuses l → Each (UntilAnswered (c .printer) (c .repeats)) (polls c result left wait b l)
+  unfolding polls
+  polls-until left zero b l d = (poll-until result taken b l d, tt)
+  polls-until zero (suc wait) b l d = (poll-until confirmationBytes confirms b l d, tt)
+  polls-until (suc left) (suc wait) b l d = (
+    poll-until confirmationBytes confirms b l d,
+    by-pick (Each (UntilAnswered (c .printer) (c .repeats))) (meets (c .repeats) l)
+        (λ _. polls-until left wait (not b) (leaves (c .repeats) l) (damage-left FramingRefuses (c .repeats) l d)) (λ _. tt),
+  )

@@ -1,5 +1,5 @@
 -- The joined run of a controller and a printer, whatever each of them is: its parts, and one request on its way.
-use Prim.Native.Nat.{ℕ, zero, suc, _+_, _-_, _≤_, _<_}
+use Prim.Native.Nat.{ℕ, zero, suc, _+_, _-_, _≤_}
 use native.Mathlib.Nat.{add-zero, zero-add, add-suc, suc-add}
 use native.Mathlib.Numerals.{add-one}
 use native.Mathlib.Omega.{arith}
@@ -112,12 +112,6 @@ module _ {P O E : Type 0} (hear : P → List ℕ → Answered P) (step : O → L
       let k : v ≡ u + (v - u) = omega arith in
       ap (λ w. run hear step w x) k ∙ run-add u (v - u) x ∙ run-stop (v - u) (run hear step u x) h
 
-  -- where all u were sent, it had not stopped before
-  pub not-sooner : (u k : ℕ) (x : Config P O E) {e : E} → x .sent + u ≡ run hear step u x .sent → k < u → run hear step k x .move ≡ stop e → ⊥
-  not-sooner u k x all lt h =
-      let same : run hear step u x .sent ≡ run hear step k x .sent = ap (λ y. y .sent) (settles k u x h (omega arith)) in
-      omega (arith, sent-counts k x, transcript-short k x)
-
 -- ---- the sendings of one request
 
 -- one where it is answered or no repeat is left, and else one and then those of the repeats
@@ -143,15 +137,8 @@ module _ {q r : List ℕ} where
   some-and-short (one t z) = omega arith
   some-and-short (more t x) = omega (arith, some-and-short x)
 
-  left-over : {k : ℕ} {l : List Passage} {e : List Sending} {l′ : List Passage} {b : Bool} → Exchanged q r k l e l′ b → l′ ≡ drop (length e) l
-  left-over (one {l} t z) = drop-rest 0 l
-  left-over (more {l} {e} t x) = left-over x ∙ drop-rest (length e) l
-
 pub exchange-short : (k : ℕ) (q r : List ℕ) (l : List Passage) → (1 ≤ length (exchange k q r l)) × (length (exchange k q r l) ≤ k + 1)
 exchange-short k q r l = some-and-short (exchanged q r k l)
-
-pub line-left : (k : ℕ) (q r : List ℕ) (l : List Passage) → leaves k l ≡ drop (length (exchange k q r l)) l
-line-left k q r l = left-over (exchanged q r k l)
 
 -- ---- damage: a line that damages only by bytes that neither end takes for a telegram
 
@@ -314,11 +301,6 @@ module _ {P O E : Type 0} {hear : P → List ℕ → Answered P} {step : O → L
 
       pub request-sendings : transcript hear step (length (exchange k q r l)) (at l p (go q (asks k)) n) ≡ exchange k q r l
       request-sendings = sends (exchanged q r k l) d p h n
-
-      -- and the first v of them
-      pub request-transcript : (v : ℕ) → v ≤ length (exchange k q r l) → transcript hear step v (at l p (go q (asks k)) n) ≡ take v (exchange k q r l)
-      request-transcript v le =
-          sym (transcript-take hear step v (length (exchange k q r l)) (at l p (go q (asks k)) n) le) ∙ ap (take v) request-sendings
 
       pub request-printer : (v : ℕ) → v ≤ length (exchange k q r l)
           → run hear step v (at l p (go q (asks k)) n) .printer ≡ pick (oneArrives (take v (exchange k q r l))) p′ p

@@ -43,7 +43,7 @@ module _ (c : Settings) (boarding : Bool) (notYet : List ℕ) (to : c .printer �
   stored-are i m b (t ∷ ts) l order d =
       by-ways c boarding notYet i b t ts l (λ x. x .stored ≡ storedIn (c .printer) boarding (x .requests) (t ∷ ts))
       (record {
-        unanswered = λ e. rw was (by (oneArrives w) (guarded boarding (t .slot)));
+        unanswered = λ e. rw was (by (oneArrives (wrote c boarding notYet i b t ts l)) (guarded boarding (t .slot)));
         unpolled = λ e p. rw (was, arrived e) (by true (guarded boarding (t .slot)));
         unready = λ e p. rw (was, arrived e) (by true (guarded boarding (t .slot)));
         refused = λ e b′ l′ p g. rw (was, arrived e, g);
@@ -51,12 +51,6 @@ module _ (c : Settings) (boarding : Bool) (notYet : List ℕ) (to : c .printer �
             rw (was, arrived e, g) (ap (λ (x : List Entry). t ∷ x) (stored-are (suc i) (suc (t .slot)) b′ ts l′ (order .4) (onward-damage c boarding notYet to from some i b t ts l d b′ l′ p)));
       })
     where
-      w : List Sending
-      w = wrote c boarding notYet i b t ts l
-
-      q : List ℕ
-      q = writeBytes (c .printer) (c .controller) b (t .slot) (t .body)
-
       was : anyOf (heard (c .printer)) (wrote c boarding notYet i b t ts l) ≡ oneArrives (wrote c boarding notYet i b t ts l)
       was =
           heard-arrives (c .printer) (writeBytes (c .printer) (c .controller) b (t .slot) (t .body))

@@ -12,7 +12,7 @@ use Rattle.protocol.specs.Lemmas.Slots.{slot-kept}
 use Rattle.protocol.specs.Lemmas.Hearing.{same-bit}
 -- bytes that are no call change nothing and get nothing
 pub use Rattle.protocol.specs.Lemmas.Hearing.{isCallOf, not-a-call}
-use Rattle.protocol.specs.Printer.{Ask, slaveDiag, write, poll, unknown, undecodable, Received, nothing, elsewhere, status, uncounted, opening, counted, receivedOf, guarded, judge, slotsAfter, perform, Station, Heard, isRepeat, newCall, heardBy, hear}
+use Rattle.protocol.specs.Printer.{Ask, slaveDiag, write, poll, unknown, undecodable, Received, nothing, elsewhere, status, uncounted, opening, counted, receivedOf, guarded, judge, slotsAfter, writeDeed, perform, Station, Heard, isRepeat, newCall, heardBy, hear}
 use Rattle.protocol.specs.declared.printer.Outcome.the-variants as outcome
 use Rattle.protocol.specs.declared.printer.Pending.{Pending}
 use Rattle.protocol.specs.declared.printer.Pending.the-variants as pending
@@ -87,7 +87,23 @@ pub slot-seven-kept : (diag : List ℕ) (n : ℕ) (s : List ℕ) (x : Station) �
 slot-seven-kept diag n s x z b =
     seven z (subst (λ (c : Bool). Changes c (x .slots) (hear diag n s x .station .slots)) b (slots-change diag n s x))
 
--- A negative result leaves every slot as it was.
-pub negative-changes-nothing : (boarding : Bool) (slot index : ℕ) (body : List ℕ) (s : Slots) {code1 code2 : ℕ}
-    → judge boarding slot index (length body) ≡ outcome.Negative code1 code2 → slotsAfter (judge boarding slot index (length body)) index body s ≡ s
-negative-changes-nothing boarding slot index body s e = rw e
+by-result : (boarding : Bool) (n : ℕ) (p : Pending) (s : Slots) (w slot index : ℕ) (body : List ℕ) {code1 code2 wait : ℕ}
+    → writeDeed boarding n p s w slot index body .pending ≡ pending.Result (outcome.Negative code1 code2) wait → writeDeed boarding n p s w slot index body .slots ≡ s
+by-result boarding n pending.Nothing s w slot index body {code1} {code2} e =
+    let j : judge boarding slot index (length body) ≡ outcome.Negative code1 code2 = cc in rw j
+by-result boarding n (pending.Result o wait) s w slot index body e = refl
+
+-- A write after which a negative result is pending has left every slot as it was.
+pub negative-changes-nothing : (diag : List ℕ) (n : ℕ) (s : List ℕ) (x : Station) (fcb : Bool) (sa slot index : ℕ) (body : List ℕ) {code1 code2 wait : ℕ}
+    → receivedOf (x .printer .address) s ≡ counted fcb sa (write slot index body) → hear diag n s x .station .printer .pending ≡ pending.Result (outcome.Negative code1 code2) wait
+    → hear diag n s x .station .slots ≡ x .slots
+unfolding hear
+negative-changes-nothing diag n s x fcb sa slot index body {code1} {code2} {wait} e h = rw e (by (isRepeat (x .printer) fcb sa) (rw e at h))
+  where
+    by : (b : Bool)
+        → (let y : Heard = pick b (record { station = x; reply = x .printer .held }) (newCall diag x fcb sa (perform (x .printer .boarding) n (x .printer .pending) (x .slots) (x .printer .writes) (write slot index body))) in
+        y .station .printer .pending ≡ pending.Result (outcome.Negative code1 code2) wait)
+        → (let y : Heard = pick b (record { station = x; reply = x .printer .held }) (newCall diag x fcb sa (perform (x .printer .boarding) n (x .printer .pending) (x .slots) (x .printer .writes) (write slot index body))) in
+        y .station .slots ≡ x .slots)
+    by true k = refl
+    by false k = by-result (x .printer .boarding) n (x .printer .pending) (x .slots) (x .printer .writes) slot index body k
