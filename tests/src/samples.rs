@@ -7,10 +7,13 @@
 
 pub mod acyclic;
 pub mod acyclic_fields;
+pub mod books;
 pub mod configuration;
 pub mod control;
 pub mod diagnosis;
+pub mod downloads;
 pub mod parameters;
+pub mod printers;
 pub mod service_outcomes;
 pub mod service_pairs;
 pub mod service_telegrams;

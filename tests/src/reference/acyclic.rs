@@ -12,9 +12,9 @@ const IDLE: u8 = 0x48;
 const TRANSPORT: u8 = 0x51;
 const ALARM_ACK: u8 = 0x5C;
 const READ: u8 = 0x5E;
-const WRITE: u8 = 0x5F;
+pub(super) const WRITE: u8 = 0x5F;
 /// What a negative answer adds to the number.
-const NEGATIVE: u8 = 0x80;
+pub(super) const NEGATIVE: u8 = 0x80;
 
 /// The most data bytes, and the most that can be asked for or taken.
 const MOST_DATA: u8 = 240;

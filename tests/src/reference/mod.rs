@@ -2,11 +2,15 @@
 
 pub mod acyclic;
 mod acyclic_text;
+pub mod book;
 pub mod configuration;
 pub mod control;
+pub mod controller;
 pub mod diagnosis;
+pub mod download;
 pub mod fields;
 pub mod parameters;
+pub mod printer;
 pub mod service;
 pub mod service_telegram_text;
 pub mod service_text;
@@ -18,12 +22,13 @@ pub mod writer_text;
 
 #[cfg(test)]
 mod expect;
+#[cfg(test)]
+mod sentences;
 
 /// The longest data of a service, and the most inputs or outputs of a slave.
 const LONGEST_DATA: usize = 244;
 
-/// The refusal numbers of document 01 that telegrams, the services' data and
-/// typed values can get.
+/// The refusal numbers of document 01.
 pub mod refusal {
     /// The bytes end early.
     pub const SHORT: u8 = 1;
@@ -31,7 +36,7 @@ pub mod refusal {
     pub const START: u8 = 2;
     /// LE is not 4..249, LE and LEr are unequal, or the second SD2 is wrong.
     pub const LENGTH: u8 = 3;
-    /// Bytes follow the telegram.
+    /// Bytes follow the telegram or the book.
     pub const TRAILING: u8 = 4;
     /// The end byte is not 16 hex.
     pub const END: u8 = 5;
@@ -48,8 +53,8 @@ pub mod refusal {
     pub const SERVICE: u8 = 10;
     /// The lent output is too small.
     pub const OUTPUT: u8 = 11;
-    /// A field of the caller's telegram, the position of a walk, or what a case
-    /// of a typed value holds is out of range.
+    /// A field of the caller's telegram, the position of a walk, what a case of a
+    /// typed value holds, a setting or a state is out of range.
     pub const FIELD: u8 = 12;
     /// The length of a service's data is wrong.
     pub const DATA_LENGTH: u8 = 20;
@@ -71,6 +76,8 @@ pub mod refusal {
     pub const ACYCLIC_CODE: u8 = 28;
     /// The code of a typed value is not 1..8, or its Boolean is not 00 or FF.
     pub const TYPED_VALUE: u8 = 29;
+    /// The table of a template book is wrong.
+    pub const BOOK_TABLE: u8 = 32;
 }
 
 /// Stores the parts one after the other at the front of `out` and answers their

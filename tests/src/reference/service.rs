@@ -68,6 +68,12 @@ impl Service {
             Service::ChkCfg => "Chk_Cfg",
         }
     }
+
+    /// Where it is reached, unless it has no SAPs.
+    pub fn access_point(self) -> Option<AccessPoint> {
+        let mut points = ACCESS_POINTS.into_iter();
+        points.find(|point| point.service == self)
+    }
 }
 
 /// Where a service is reached.
@@ -303,7 +309,7 @@ impl Carried {
     const fn by(fc: u8) -> Option<Self> {
         match class(fc) {
             Class::Opening | Class::Counted => Some(Carried::Call),
-            Class::Uncounted if matches!(fc & 0x0F, 4 | 6) => Some(Carried::Command),
+            Class::Uncounted if matches!(fc & telegram::FUNCTION, 4 | 6) => Some(Carried::Command),
             Class::Data => Some(Carried::Answer),
             Class::Uncounted | Class::Bare | Class::Reserved => None,
         }
@@ -477,8 +483,7 @@ pub fn write(telegram: &ServiceTelegram<'_>, out: &mut [u8]) -> Result<usize, u8
         ref content,
         part,
     } = *telegram;
-    let service = content.service();
-    let point = ACCESS_POINTS.iter().find(|point| point.service == service);
+    let point = content.service().access_point();
     let saps_length = point.map_or(0, |_| 2);
     judge_fields(telegram, saps_length + content.length() + part.len())?;
     let carried = carried_by(fc)?;

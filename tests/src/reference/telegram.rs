@@ -17,10 +17,15 @@ pub const SC: u8 = 0xE5;
 /// End byte of every frame.
 pub const ED: u8 = 0x16;
 
+/// The bit of a call that alternates.
+pub(super) const FCB: u8 = 0x20;
+/// The bits of a function code that say what is asked for or answered.
+pub(super) const FUNCTION: u8 = 0x0F;
+
 /// Bit 7 of DA or SA: a SAP stands in the PDU.
 const EXTENSION_FLAG: u8 = 0x80;
 /// The highest address of a single station; a DA may also be 127, to all.
-const LAST_STATION: u8 = 126;
+pub(super) const LAST_STATION: u8 = 126;
 const BROADCAST: u8 = 127;
 const LAST_SAP: u8 = 63;
 
@@ -63,9 +68,9 @@ pub const fn class(fc: u8) -> Class {
 }
 
 const fn call_class(fc: u8) -> Class {
-    let fcb = fc & 0x20 != 0;
+    let fcb = fc & FCB != 0;
     let fcv = fc & 0x10 != 0;
-    match (fc & 0x0F, fcv, fcb) {
+    match (fc & FUNCTION, fcv, fcb) {
         (3 | 5 | 7 | 12 | 13, false, true) => Class::Opening,
         (3 | 5 | 7 | 12 | 13, true, _) => Class::Counted,
         (0 | 4 | 6 | 9 | 14 | 15, false, false) => Class::Uncounted,
@@ -75,7 +80,7 @@ const fn call_class(fc: u8) -> Class {
 
 /// Bits 5 and 4 name the station type and leave the class alone.
 const fn answer_class(fc: u8) -> Class {
-    match fc & 0x0F {
+    match fc & FUNCTION {
         0..=3 | 9 => Class::Bare,
         8 | 10 | 12 | 13 => Class::Data,
         _ => Class::Reserved,
@@ -186,8 +191,8 @@ pub fn read(bytes: &[u8]) -> Result<Telegram<'_>, u8> {
     }
 }
 
-/// The bytes, when they are exactly as many as the telegram has.
-fn whole(bytes: &[u8], length: usize) -> Result<&[u8], u8> {
+/// The bytes, when they are exactly as many as there must be.
+pub(super) fn whole(bytes: &[u8], length: usize) -> Result<&[u8], u8> {
     match bytes.len().cmp(&length) {
         Ordering::Less => Err(refusal::SHORT),
         Ordering::Equal => Ok(bytes),
