@@ -217,15 +217,10 @@ stateVerdict c n (controller.Asking k j fcb repeats) =
     (pick (ltb (c .repeats) repeats) (fault 12)
     (pick (wrongFcb c k j fcb) (fault 12) fine))))
 
--- a buffer for a telegram
-abbrev pub roomVerdict : (buffer : List ℕ) → Verdict
-roomVerdict buffer = pick (ltb (length buffer) 255) (fault 11) fine
-
-unfoldable pub verdictOf : Settings → (book : List ℕ) → Controller → (buffer : List ℕ) → Verdict
-verdictOf c book o buffer =
+unfoldable pub verdictOf : Settings → (book : List ℕ) → Controller → Verdict
+verdictOf c book o =
     judged fault (settingsVerdict c)
-    (judged fault (bookVerdict (book-format.readOf book))
-    (judged fault (stateVerdict c (length (templatesOf book)) o) (roomVerdict buffer)))
+    (judged fault (bookVerdict (book-format.readOf book)) (stateVerdict c (length (templatesOf book)) o))
 
 -- ---- the step: the answer, and what the lent buffer is then
 
@@ -233,8 +228,11 @@ pub record Acted : Type 0 where
   pub answer : Action
   pub buffer : List ℕ
 
+-- the request stands at the front of the buffer; 11 where it does not fit
 abbrev pub acted : Move → (buffer : List ℕ) → Acted
-acted (go request o) buffer = record { answer = action.Send o (length request); buffer = over request buffer }
+acted (go request o) buffer =
+    pick (ltb (length buffer) (length request)) (record { answer = action.Refused 11; buffer = buffer })
+    (record { answer = action.Send o (length request); buffer = over request buffer })
 acted (stop e) buffer = record { answer = action.End e; buffer = buffer }
 
 abbrev pub stepBy : Verdict → Move → (buffer : List ℕ) → Acted
@@ -242,4 +240,4 @@ stepBy fine m buffer = acted m buffer
 stepBy (fault k) m buffer = record { answer = action.Refused k; buffer = buffer }
 
 unfoldable pub stepOf : Settings → (book : List ℕ) → Controller → (reply buffer : List ℕ) → Acted
-stepOf c book o reply buffer = stepBy (verdictOf c book o buffer) (moveOf c (templatesOf book) o reply) buffer
+stepOf c book o reply buffer = stepBy (verdictOf c book o) (moveOf c (templatesOf book) o reply) buffer

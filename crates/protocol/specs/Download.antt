@@ -13,7 +13,7 @@ use Rattle.protocol.specs.Line.{Passage, through, requestLost, replyLost
 use Rattle.protocol.specs.Slots.{Slots}
 use Rattle.protocol.specs.Printer as printer
 use Rattle.protocol.specs.Printer.{Station, Heard, hear}
-use Rattle.protocol.specs.Controller.{Move, moveOf, settingsVerdict, bookVerdict, roomVerdict}
+use Rattle.protocol.specs.Controller.{Move, moveOf, settingsVerdict, bookVerdict}
 use Rattle.protocol.specs.declared.controller.Settings.{Settings}
 use Rattle.protocol.specs.declared.controller.Controller.{Controller}
 use Rattle.protocol.specs.declared.controller.Controller.the-variants as controller
@@ -78,6 +78,10 @@ passagesOf (b ∷ l) = passageBy b ∷ passagesOf l
 unfoldable pub lineVerdict : (line : List ℕ) → Verdict
 lineVerdict [] = fine
 lineVerdict (b ∷ l) = pick (ltb 2 b) (fault 12) (lineVerdict l)
+
+-- room for every telegram
+abbrev pub roomVerdict : (buffer : List ℕ) → Verdict
+roomVerdict buffer = pick (ltb (length buffer) 255) (fault 11) fine
 
 -- the settings, the book, the line, the printer, and last the room for a request; nothing is sent before
 unfoldable pub verdictOf : Settings → (book line diagnosis : List ℕ) → Station → (request : List ℕ) → Verdict

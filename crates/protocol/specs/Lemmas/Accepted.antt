@@ -19,8 +19,8 @@ use Rattle.protocol.specs.Words.{FramingRefuses}
 use Rattle.protocol.specs.Line.{DamagedBy, Damage}
 use Rattle.protocol.specs.Printer as printer-step
 use Rattle.protocol.specs.Printer.{Station}
-use Rattle.protocol.specs.Controller.{settingsVerdict, bookVerdict, roomVerdict}
-use Rattle.protocol.specs.Download.{given, passagesOf, lineVerdict, verdictOf}
+use Rattle.protocol.specs.Controller.{settingsVerdict, bookVerdict}
+use Rattle.protocol.specs.Download.{given, passagesOf, lineVerdict, roomVerdict, verdictOf}
 use Rattle.protocol.specs.Demand.{NotRefused}
 use Rattle.protocol.specs.declared.controller.Settings.{Settings}
 
