@@ -1,9 +1,9 @@
--- `content::writing::write_call` meets its contract: each content has its writer.
+-- `content_writer::writing::write_call` meets its contract: each content has its writer.
 use Rattle.octets.specs.Front.{refused}
 use Rattle.content.specs.Writing.{bytesFor, callVerdict}
 use borrow.Author.Needs.{needs}
-use Rattle.content.proofs.writing.write_call.Statement.{statement}
-use Rattle.content.proofs.writing.write_call.Tie as tie
+use Rattle.content_writer.proofs.writing.write_call.Statement.{statement}
+use Rattle.content_writer.proofs.writing.write_call.Tie as tie
 
 enum-told : tie.Need-enum-told
 enum-told c = search needs

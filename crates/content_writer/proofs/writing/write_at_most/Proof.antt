@@ -1,12 +1,12 @@
--- `content::writing::write_at_most` meets its contract: the test is the verdict, and the bytes are stored as they are.
+-- `content_writer::writing::write_at_most` meets its contract: the test is the verdict, and the bytes are stored as they are.
 use mathlib.Core.Path.{_≡_}
 use denote.Ref.{now}
 use borrow.Author.Tests.{lt-ltb, le-ltb}
 use borrow.Author.Needs.{needs}
 use Rattle.octets.specs.Front.{fine, at-front, refused, too-small, stored}
 use Rattle.content.specs.Writing.{atMost}
-use Rattle.content.proofs.writing.write_at_most.Statement.{statement}
-use Rattle.content.proofs.writing.write_at_most.Tie as tie
+use Rattle.content_writer.proofs.writing.write_at_most.Statement.{statement}
+use Rattle.content_writer.proofs.writing.write_at_most.Tie as tie
 
 verdict : (c : tie.Else1) → let a = c .before .before .before .args in atMost (a .most) (now (a .part)) ≡ fine
 unfolding atMost

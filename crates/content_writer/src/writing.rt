@@ -3,8 +3,8 @@
 ghost use mathlib.Core.Path.{_≡_};
 ghost use lib.ListN.{length};
 ghost use Rattle.octets.specs.Front.{answerBy, heldBy};
 ghost use Rattle.content.specs.Writing.{bytesFor, atMost, callVerdict, answerVerdict};
-use crate::fields::Content;
+use content::Content;
 use octets::Written;
 
 // Writes bytes as they are: plain ones, or none.
