@@ -20,6 +20,7 @@ use Rattle.book.specs.Contents.{Entry}
 use Rattle.protocol.specs.Endings.{isDone}
 use Rattle.protocol.specs.Line.{go, stop}
 use Rattle.protocol.specs.Telegrams.{replyCode, openingBytes}
+use Rattle.protocol.specs.Lemmas.Ours.{got-bad}
 use Rattle.protocol.specs.Lemmas.Replies.{got-nothing}
 use Rattle.protocol.specs.Controller.{Got, nothing, confirmation, diagnosis, positive, negative, other, isSd2, isPrinters, gotFrom, gotIn, Move, requestBytes, askFor, settled, again, afterJob, moveBy, moveOf}
 use Rattle.protocol.specs.declared.controller.Settings.{Settings}
@@ -33,16 +34,10 @@ use Rattle.protocol.specs.declared.controller.Ending.the-variants as end
 -- ---- replies
 
 module _ (c : Settings) (s : List ℕ) where
-  refused-nothing : (r : telegram-type.Reading) → accepted r ≡ false → gotFrom c s r ≡ nothing
-  refused-nothing telegram-reading.Confirmation e = absurd (never (sym e))
-  refused-nothing (telegram-reading.Token da sa) e = absurd (never (sym e))
-  refused-nothing (telegram-reading.Telegram f h start len) e = absurd (never (sym e))
-  refused-nothing (telegram-reading.Refused r) e = refl
-
   -- Bytes that framing refuses are to the controller as no bytes.
   pub refused-is-none : (book : List Entry) (o : Controller) → accepted (telegram.readOf s) ≡ false → moveOf c book o s ≡ moveOf c book o []
-  unfolding moveOf gotIn
-  refused-is-none book o e = ap (moveBy c book o) (refused-nothing (telegram.readOf s) e ∙ sym (got-nothing c))
+  unfolding moveOf
+  refused-is-none book o e = ap (moveBy c book o) (got-bad c s e ∙ sym (got-nothing c))
 
 -- is it the printer's diagnosis, 5F or DF
 abbrev pub fromPrinter : Got → Bool
