@@ -101,7 +101,7 @@ pub(crate) fn typed_line(bytes: &[u8], out: &mut [u8]) {
         Reading::Value(value) => {
             text(b"0");
             value_words(value);
-            let written = typed::write(value, out);
+            let written = typed_writer::write(value, out);
             again(written, out);
             text(b"\n");
         }
@@ -109,7 +109,7 @@ pub(crate) fn typed_line(bytes: &[u8], out: &mut [u8]) {
 }
 
 fn written_value(value: Value, out: &mut [u8]) {
-    let written = typed::write(value, out);
+    let written = typed_writer::write(value, out);
     stored(written, out);
 }
 

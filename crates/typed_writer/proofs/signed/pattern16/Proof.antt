@@ -1,8 +1,8 @@
--- `typed::signed::pattern16` meets its contract: a negative number goes by its complement.
+-- `typed_writer::signed::pattern16` meets its contract: a negative number goes by its complement.
 use mir.Syntax.{w16}
 use Rattle.typed.specs.Lemmas.Complement.{flipped-fits, flipped-below, flipped-back, kept-fits, kept-back}
-use Rattle.typed.proofs.signed.pattern16.Statement.{statement}
-use Rattle.typed.proofs.signed.pattern16.Tie as tie
+use Rattle.typed_writer.proofs.signed.pattern16.Statement.{statement}
+use Rattle.typed_writer.proofs.signed.pattern16.Tie as tie
 
 cast-result : tie.Need-cast-result
 cast-result c = flipped-fits w16 _ (c .before .fits .number) (c .if1 .taken)

@@ -1,4 +1,4 @@
--- `typed::writing::write16` meets its contract. Two stores, where both fit: the two bytes behind the code.
+-- `typed_writer::writing::write16` meets its contract. Two stores, where both fit: the two bytes behind the code.
 use mathlib.Core.Path.{_∙_}
 use mathlib.Core.List.{_∷_}
 use native.Mathlib.Omega.{arith}
@@ -7,9 +7,9 @@ use denote.Ref.{now}
 use borrow.Author.Needs.{needs}
 use Rattle.octets.specs.Number.{bytesOf}
 use Rattle.octets.specs.Front.{too-small, stored}
-use Rattle.typed.proofs.Coded.{behind-code}
-use Rattle.typed.proofs.writing.write16.Statement.{statement}
-use Rattle.typed.proofs.writing.write16.Tie as tie
+use Rattle.typed_writer.proofs.Coded.{behind-code}
+use Rattle.typed_writer.proofs.writing.write16.Statement.{statement}
+use Rattle.typed_writer.proofs.writing.write16.Tie as tie
 
 returns : tie.Need-returns
 returns c =

@@ -1,8 +1,8 @@
--- `typed::signed::pattern8` meets its contract: a negative number goes by its complement.
+-- `typed_writer::signed::pattern8` meets its contract: a negative number goes by its complement.
 use mir.Syntax.{w8}
 use Rattle.typed.specs.Lemmas.Complement.{flipped-fits, flipped-below, flipped-back, kept-fits, kept-back}
-use Rattle.typed.proofs.signed.pattern8.Statement.{statement}
-use Rattle.typed.proofs.signed.pattern8.Tie as tie
+use Rattle.typed_writer.proofs.signed.pattern8.Statement.{statement}
+use Rattle.typed_writer.proofs.signed.pattern8.Tie as tie
 
 cast-result : tie.Need-cast-result
 cast-result c = flipped-fits w8 _ (c .before .fits .number) (c .if1 .taken)

@@ -1,10 +1,10 @@
--- `typed::writing::write` meets its contract: each arm writes the code and the pattern of its case.
+-- `typed_writer::writing::write` meets its contract: each arm writes the code and the pattern of its case.
 use mir.Syntax.{w8, w16, w32}
 use borrow.Author.Needs.{needs}
 use Rattle.typed.specs.Value.{kindOf}
 use Rattle.typed.specs.Lemmas.Complement.{out-of}
-use Rattle.typed.proofs.writing.write.Statement.{statement}
-use Rattle.typed.proofs.writing.write.Tie as tie
+use Rattle.typed_writer.proofs.writing.write.Statement.{statement}
+use Rattle.typed_writer.proofs.writing.write.Tie as tie
 
 enum-known-value : tie.Need-enum-known-value
 enum-known-value c = search needs

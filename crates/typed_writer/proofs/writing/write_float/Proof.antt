@@ -1,14 +1,14 @@
--- `typed::writing::write_float` meets its contract: a number with a pattern is written by it.
+-- `typed_writer::writing::write_float` meets its contract: a number with a pattern is written by it.
 use mathlib.Core.Path.{sym, _∙_}
 use denote.Ref.{now}
 use borrow.Author.Needs.{needs}
 use Rattle.octets.specs.Float.{known, unknown}
 use Rattle.octets.specs.Front.{refused}
 use Rattle.typed.specs.Value.{kindOf}
 use Rattle.typed.specs.Writing.{bytesFor}
 use Rattle.typed.specs.declared.value.Value.the-variants.{Float}
-use Rattle.typed.proofs.writing.write_float.Statement.{statement}
-use Rattle.typed.proofs.writing.write_float.Tie as tie
+use Rattle.typed_writer.proofs.writing.write_float.Statement.{statement}
+use Rattle.typed_writer.proofs.writing.write_float.Tie as tie
 
 pattern-of-requires : tie.Need-pattern-of-requires
 pattern-of-requires c κs = search needs

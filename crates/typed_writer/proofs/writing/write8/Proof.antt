@@ -1,4 +1,4 @@
--- `typed::writing::write8` meets its contract: two stores, where both fit.
+-- `typed_writer::writing::write8` meets its contract: two stores, where both fit.
 use mathlib.Core.Path.{_≡_}
 use mathlib.Core.List.{[], _∷_}
 use Prim.Native.Nat.{_%_}
@@ -8,8 +8,8 @@ use denote.Ref.{now}
 use borrow.Author.Needs.{needs}
 use Rattle.octets.specs.Number.{bytesOf}
 use Rattle.octets.specs.Front.{stores, too-small, stored}
-use Rattle.typed.proofs.writing.write8.Statement.{statement}
-use Rattle.typed.proofs.writing.write8.Tie as tie
+use Rattle.typed_writer.proofs.writing.write8.Statement.{statement}
+use Rattle.typed_writer.proofs.writing.write8.Tie as tie
 
 returns : tie.Need-returns
 returns c =

@@ -1,14 +1,14 @@
--- `typed::writing::write_nan` meets its contract: the pattern of a NaN is written as it is.
+-- `typed_writer::writing::write_nan` meets its contract: the pattern of a NaN is written as it is.
 use mathlib.Core.Path.{sym, ap, _∙_}
 use mathlib.Core.Bool.{not}
 use denote.Ref.{now}
 use borrow.Author.Needs.{needs}
 use Rattle.octets.specs.Front.{refused}
 use Rattle.typed.specs.Value.{kindOf}
 use Rattle.typed.specs.Writing.{bytesFor}
 use Rattle.typed.specs.declared.value.Value.the-variants.{Nan}
-use Rattle.typed.proofs.writing.write_nan.Statement.{statement}
-use Rattle.typed.proofs.writing.write_nan.Tie as tie
+use Rattle.typed_writer.proofs.writing.write_nan.Statement.{statement}
+use Rattle.typed_writer.proofs.writing.write_nan.Tie as tie
 
 is-nan-pattern-requires : tie.Need-is-nan-pattern-requires
 is-nan-pattern-requires c κs = search needs

@@ -4,14 +4,14 @@ ghost use mathlib.Core.List.{_∷_};
 ghost use lib.ListN.{length};
 ghost use Rattle.octets.specs.Number.{bytesOf};
 ghost use Rattle.octets.specs.Front.{fine, answerBy, heldBy};
 ghost use Rattle.typed.specs.Value.{patternIn};
 ghost use Rattle.typed.specs.Writing.{verdictOf, bytesFor};
 use crate::signed::pattern8;
 use crate::signed::pattern16;
 use crate::signed::pattern32;
-use crate::value::Value;
 use octets::Pattern;
 use octets::Written;
+use typed::Value;
 
 // The byte of a Boolean.
 fn boolean_byte(yes: bool) -> u8
