@@ -1,6 +1,6 @@
 /*
- * Rabtunex: PROFIBUS DP telegrams, whole service telegrams, and DPV1 calls and answers, read and
- * written; diagnosis and configuration data, read.
+ * Rabtunex: PROFIBUS DP telegrams, whole service telegrams, DPV1 calls and answers, and template
+ * books, read and written; diagnosis and configuration data, read.
  *
  * Every function takes all inputs and returns. It answers 0, or the refusal number of its
  * input's first fault (RABTUNEX_REFUSED_..), and then has stored nothing. Nothing is kept
@@ -24,7 +24,7 @@ extern "C" {
 #define RABTUNEX_REFUSED_SHORT 1         /* the bytes end early */
 #define RABTUNEX_REFUSED_START 2         /* the first byte is no start byte */
 #define RABTUNEX_REFUSED_LENGTH 3        /* LE, LEr or the second SD2 is wrong */
-#define RABTUNEX_REFUSED_TRAILING 4      /* bytes follow the telegram */
+#define RABTUNEX_REFUSED_TRAILING 4      /* bytes follow the telegram or the book */
 #define RABTUNEX_REFUSED_END 5           /* the end byte is not 16 hex */
 #define RABTUNEX_REFUSED_CHECKSUM 6      /* the checksum is wrong */
 #define RABTUNEX_REFUSED_ADDRESS 7       /* an address is out of range */
@@ -42,6 +42,7 @@ extern "C" {
 #define RABTUNEX_REFUSED_VENDOR_COUNT 26 /* a module's vendor count is 15 */
 #define RABTUNEX_REFUSED_PROCESS_DATA 27 /* over 244 input or 244 output bytes */
 #define RABTUNEX_REFUSED_DPV1 28         /* a DPV1 function number or error code is reserved */
+#define RABTUNEX_REFUSED_BOOK_TABLE 32   /* the table of a template book is wrong */
 
 /* The longest telegram: an output of so many bytes is never too small. */
 #define RABTUNEX_TELEGRAM_MAX 255
@@ -314,6 +315,47 @@ uint8_t rabtunex_read_service(const uint8_t *bytes, size_t bytes_len, uint8_t ve
 uint8_t rabtunex_write_service(const uint8_t fields[RABTUNEX_SERVICE_FIELDS], uint8_t version,
                                const uint8_t *part, size_t part_len, uint8_t *out, size_t out_len,
                                size_t *stored);
+
+/* The most templates of a book, and the longest body of one. */
+#define RABTUNEX_TEMPLATES_MAX 16
+#define RABTUNEX_TEMPLATE_MAX 200
+
+/* The longest book: an output of so many bytes is never too small. */
+#define RABTUNEX_BOOK_MAX 3233
+
+/* Reads one template book, which is all of the bytes, and stores the number of its templates in
+ * *count. Every template is looked at too: none from 1 to *count is refused then. */
+uint8_t rabtunex_read_book(const uint8_t *bytes, size_t bytes_len, size_t *count);
+
+/* A template of a book: an array of RABTUNEX_TEMPLATE_FIELDS numbers, at these places. */
+#define RABTUNEX_TEMPLATE_FIELDS 3
+#define RABTUNEX_TEMPLATE_SLOT 0  /* the slot, 0 to 15 */
+#define RABTUNEX_TEMPLATE_START 1 /* where the body begins in the book's bytes */
+#define RABTUNEX_TEMPLATE_LEN 2   /* how many bytes the body has */
+
+/* Stores the fields of template k of a book, counted from 1. The body stays where it is:
+ * fields[RABTUNEX_TEMPLATE_LEN] bytes from bytes + fields[RABTUNEX_TEMPLATE_START]. All of the book
+ * is read first, and one that is refused gives its own number for every k; a k that the book does
+ * not have gives RABTUNEX_REFUSED_FIELD. All templates of a book:
+ *
+ *     size_t fields[RABTUNEX_TEMPLATE_FIELDS];
+ *     size_t k = 1;
+ *     while (rabtunex_book_template(bytes, bytes_len, k, fields) == 0) {
+ *         show(fields);
+ *         k++;
+ *     }
+ */
+uint8_t rabtunex_book_template(const uint8_t *bytes, size_t bytes_len, size_t k,
+                               size_t fields[RABTUNEX_TEMPLATE_FIELDS]);
+
+/* Writes one book at the front of out, and its length to *stored: slots has the slot of each
+ * template, lengths the length of its body in the same order, and bodies all bodies, one after the
+ * other. What reading would refuse as RABTUNEX_REFUSED_BOOK_TABLE gives that number, and so do
+ * lengths that are not as many as the slots, and bodies that are not as many bytes as the lengths
+ * add up to. */
+uint8_t rabtunex_write_book(const uint8_t *slots, size_t slots_len, const uint8_t *lengths,
+                            size_t lengths_len, const uint8_t *bodies, size_t bodies_len,
+                            uint8_t *out, size_t out_len, size_t *stored);
 
 #ifdef __cplusplus
 }

@@ -6,4 +6,5 @@ pub mod Diagnosis
 pub mod Configuration
 pub mod Acyclic
 pub mod Service
+pub mod Book
 pub mod Laws
