@@ -58,7 +58,7 @@ fn modules_end(step: configuration::Step) {
 // that are counted down.
 fn modules(bytes: &[u8], out: &mut [u8]) {
     let mut position = configuration::first();
-    let mut turns: usize = 512;
+    let mut turns: usize = 4097;
     while 0 < turns {
         let step = configuration::next(bytes, position);
         let configuration::Step::Module {

@@ -58,7 +58,7 @@ fn blocks_end(step: diagnosis::Step) {
 // No data has as many blocks as the turns that are counted down.
 fn blocks(bytes: &[u8]) {
     let mut position = diagnosis::first();
-    let mut turns: usize = 512;
+    let mut turns: usize = 4097;
     while 0 < turns {
         let step = diagnosis::next(bytes, position);
         let diagnosis::Step::Block(found, next) = step else {

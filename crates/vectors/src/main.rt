@@ -20,8 +20,8 @@ use libc::STDIN_FILENO;
 // from a number that no run uses up.
 fn main() {
     let mut part = io::large_buffer();
-    let mut bytes = [0u8; 512];
-    let mut out = [0u8; 256];
+    let mut bytes = [0u8; 4096];
+    let mut out = [0u8; 4096];
     let mut line = line::start();
     let mut turns = u64::MAX;
     while 0 < turns {

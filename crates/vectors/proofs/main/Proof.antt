@@ -6,7 +6,7 @@ use Rattle.vectors.proofs.main.Statement.{statement}
 use Rattle.vectors.proofs.main.Tie as tie
 
 abbrev Inv-loop : tie.InvT-loop
-Inv-loop part₀ bytes₀ out₀ line₀ turns₀ part bytes out line turns = (length part ≡ 65536) × (length bytes ≡ 512) × (length out ≡ 256)
+Inv-loop part₀ bytes₀ out₀ line₀ turns₀ part bytes out line turns = (length part ≡ 65536) × (length bytes ≡ 4096) × (length out ≡ 4096)
 
 abbrev μ-loop : tie.MeasureT-loop
 μ-loop part₀ bytes₀ out₀ line₀ turns₀ part bytes out line turns = turns
