@@ -5,6 +5,8 @@ use crate::acyclic_line::call_fields;
 use crate::acyclic_line::call_line;
 use crate::answer;
 use crate::answer::malformed;
+use crate::book_line::book_fields;
+use crate::book_line::book_line;
 use crate::configuration_line::configuration_fields;
 use crate::configuration_line::configuration_line;
 use crate::configuration_line::module_fields;
@@ -37,6 +39,7 @@ pub(crate) enum Subject {
     AcyclicCall,
     AcyclicAnswer,
     TypedValue,
+    Book,
     // Whole telegrams of services, with parameters of either version.
     Service,
     Dpv1Service,
@@ -58,6 +61,7 @@ pub(crate) enum Writer {
     AcyclicCall,
     AcyclicAnswer,
     TypedValue,
+    Book,
 }
 
 pub(crate) enum Named {
@@ -78,6 +82,7 @@ pub(crate) fn subject_of(letter: u8) -> Named {
         b'x' => Named::Is(Subject::AcyclicCall),
         b'y' => Named::Is(Subject::AcyclicAnswer),
         b'v' => Named::Is(Subject::TypedValue),
+        b'b' => Named::Is(Subject::Book),
         b's' => Named::Is(Subject::Service),
         b'u' => Named::Is(Subject::Dpv1Service),
         _ => Named::Unknown,
@@ -100,6 +105,7 @@ pub(crate) fn fields_of(letter: u8) -> Named {
         b'x' => Writer::AcyclicCall,
         b'y' => Writer::AcyclicAnswer,
         b'v' => Writer::TypedValue,
+        b'b' => Writer::Book,
         _ => {
             return Named::Unknown;
         }
@@ -122,6 +128,7 @@ fn written(writer: Writer, fields: &[u8], out: &mut [u8]) {
         Writer::AcyclicCall => call_fields(fields, out),
         Writer::AcyclicAnswer => answer_fields(fields, out),
         Writer::TypedValue => typed_fields(fields, out),
+        Writer::Book => book_fields(fields, out),
     }
 }
 
@@ -155,6 +162,7 @@ pub(crate) fn answer_to(subject: Subject, bytes: &[u8], out: &mut [u8]) {
         Subject::AcyclicCall => call_line(bytes, out),
         Subject::AcyclicAnswer => answer_line(bytes, out),
         Subject::TypedValue => typed_line(bytes, out),
+        Subject::Book => book_line(bytes, out),
         Subject::Service => service_line(bytes, Mode::Dpv0, out),
         Subject::Dpv1Service => service_line(bytes, Mode::Dpv1, out),
         Subject::Fields(writer) => fields_line(writer, bytes, out),
