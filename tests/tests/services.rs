@@ -13,7 +13,7 @@ use rabtunex_tests::reference::parameters::Mode;
 use rabtunex_tests::reference::service_text::Service;
 use rabtunex_tests::reference::{service_telegram_text, text};
 use rabtunex_tests::samples::services::{self, Source};
-use rabtunex_tests::samples::{self, parameters::MODES, service_telegrams};
+use rabtunex_tests::samples::{self, books, parameters::MODES, service_telegrams};
 use std::collections::BTreeMap;
 
 /// How many inputs each service gets at least.
@@ -64,6 +64,29 @@ fn dpv1_answers_are_answered_alike() {
 #[test]
 fn typed_values_are_answered_alike() {
     check_service(10, Service::TypedValue);
+}
+
+#[test]
+fn template_books_are_answered_alike() {
+    check_service(11, Service::Book);
+}
+
+/// The program keeps no more of a line than any book needs.
+#[test]
+fn bytes_far_behind_a_book_are_answered_alike() {
+    const FAR_CASES: usize = 400;
+    let random = &mut Random::new(13);
+    let mut inputs = services::all_forms(random, Service::Book);
+    inputs.extend((0..FAR_CASES).map(|_| books::damaged(random)));
+    for input in &mut inputs {
+        let surplus = random.between(4_000, 10_000);
+        input.extend(random.bytes(surplus));
+    }
+    let vectors = vectors::text(&format!("={}", Service::Book.letter()), &inputs);
+    let numbers = Numbers::of(&vectors::answers(&vectors));
+    numbers.print("bytes far behind a book");
+    assert!(!numbers.counts.contains_key(&0));
+    assert!(numbers.counts.contains_key(&4));
 }
 
 /// Nothing of the service before, nor of its data, may be left over.

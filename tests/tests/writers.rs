@@ -14,6 +14,7 @@ use rabtunex_tests::reference::service_text::Service;
 use rabtunex_tests::reference::text;
 use rabtunex_tests::reference::writer_text::{Writer, MALFORMED};
 use rabtunex_tests::samples::{services, writers};
+use std::collections::BTreeMap;
 
 /// How many lines each writer gets.
 const CASES: usize = 60_000;
@@ -85,6 +86,27 @@ fn dpv1_answer_is_written_alike() {
 #[test]
 fn typed_value_is_written_alike() {
     check_writer(15, Writer::TypedValue);
+}
+
+#[test]
+fn template_book_is_written_alike() {
+    check_writer(16, Writer::Book);
+}
+
+/// The program keeps no more of a line than the fields of any book need.
+#[test]
+fn bodies_far_too_long_are_answered_alike() {
+    const FAR_CASES: usize = 400;
+    let random = &mut Random::new(17);
+    let lines = (0..FAR_CASES).map(|_| {
+        let surplus = random.between(4_000, 10_000);
+        let mut line = writers::line(random, Writer::Book);
+        line.extend(random.bytes(surplus));
+        line
+    });
+    let numbers = Numbers::of(&answers(Writer::Book, &lines.collect::<Vec<_>>()));
+    numbers.print("bodies far too long");
+    assert_eq!(numbers.counts, BTreeMap::from([(32, FAR_CASES)]));
 }
 
 #[test]

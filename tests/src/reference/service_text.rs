@@ -1,7 +1,9 @@
-//! The data of services as lines of the vectors: what reading answers, what a
-//! walk over the data meets, and what the writers make of both again.
+//! The data of services and template books as lines of the vectors: what reading
+//! answers, what a walk over the data meets, and what the writers make of both
+//! again.
 
 use super::acyclic_text;
+use super::book::{self, Template};
 use super::configuration::{self, Identifier, Module, Side, Totals};
 use super::control::{self, GlobalControl, SetSlaveAdr};
 use super::diagnosis::{self, Block, Channel, Header};
@@ -9,7 +11,10 @@ use super::parameters::{self, Mode};
 use super::LONGEST_DATA;
 use std::fmt::Write;
 
-/// A service whose data can stand in the vectors, and typed values.
+/// The longest book: 16 templates of 200 bytes.
+const LONGEST_BOOK: usize = 1 + 16 * 2 + 16 * 200;
+
+/// A service whose data can stand in the vectors, typed values and books.
 #[derive(Clone, Copy, Debug, PartialEq, Eq)]
 pub enum Service {
     /// The answer to Slave_Diag.
@@ -28,11 +33,13 @@ pub enum Service {
     Dpv1Answer,
     /// A typed value.
     TypedValue,
+    /// A template book.
+    Book,
 }
 
 impl Service {
     /// Every service, the parameters in both modes.
-    pub const ALL: [Service; 9] = [
+    pub const ALL: [Service; 10] = [
         Service::Diagnosis,
         Service::Parameters(Mode::Dpv0),
         Service::Parameters(Mode::Dpv1),
@@ -42,6 +49,7 @@ impl Service {
         Service::Dpv1Call,
         Service::Dpv1Answer,
         Service::TypedValue,
+        Service::Book,
     ];
 
     /// What stands after `=` in the line that announces its data.
@@ -56,6 +64,7 @@ impl Service {
             Service::Dpv1Call => "x",
             Service::Dpv1Answer => "y",
             Service::TypedValue => "v",
+            Service::Book => "b",
         }
     }
 
@@ -77,6 +86,7 @@ impl Service {
             Service::Dpv1Call => "DPV1 call",
             Service::Dpv1Answer => "DPV1 answer",
             Service::TypedValue => "typed value",
+            Service::Book => "template book",
         }
     }
 
@@ -85,6 +95,7 @@ impl Service {
         let accepted = match self {
             Service::Diagnosis => return diagnosis_line(bytes),
             Service::Configuration => return configuration_line(bytes),
+            Service::Book => return book_line(bytes),
             Service::Parameters(mode) => parameters_line(bytes, mode),
             Service::SetSlaveAdr => set_slave_adr_line(bytes),
             Service::GlobalControl => global_control_line(bytes),
@@ -319,6 +330,34 @@ fn global_control_line(bytes: &[u8]) -> Result<String, u8> {
     Ok(format!("0 {command} {groups}{rest}{again}"))
 }
 
+/// How many templates there are; each with its slot and where its body stands;
+/// and the number of the first that is not there.
+fn book_line(bytes: &[u8]) -> String {
+    let step = |k| book::template(bytes, k).map(|template| Some((template, k + 1)));
+    let templates = Walk::from(1, step);
+    let found = templates.items.iter().map(|(template, _)| template);
+    let bodies: Vec<&[u8]> = found.clone().map(|template| template.body).collect();
+    // Nothing comes after the last body.
+    let mut start = bytes.len() - bodies.concat().len();
+    let mut walk = String::new();
+    for Template { slot, body } in found.clone() {
+        let length = body.len();
+        write!(walk, " | {slot} {start} {length}").expect("a string takes any text");
+        start += length;
+    }
+    walk += &templates.text(|_, _| String::new());
+    let count = match book::read(bytes) {
+        Ok(book) => book.count(),
+        Err(refusal) => return format!("{refusal}{walk}"),
+    };
+    let slots: Vec<u8> = found.map(|template| template.slot).collect();
+    let lengths: Vec<u8> = bodies.iter().map(|body| body.len() as u8).collect();
+    let mut out = [0; LONGEST_BOOK];
+    let stored = book::write(&slots, &lengths, &bodies.concat(), &mut out);
+    let again = again(stored.map(|length| out[..length].to_vec()));
+    format!("0 {count}{walk}{again}")
+}
+
 #[cfg(test)]
 mod tests {
     use super::*;
@@ -340,7 +379,7 @@ mod tests {
             assert_eq!(Service::of_letter(service.letter()), Some(service));
         }
         let letters = Service::ALL.map(Service::letter);
-        assert_eq!(letters, ["d", "p", "q", "c", "a", "g", "x", "y", "v"]);
+        assert_eq!(letters, ["d", "p", "q", "c", "a", "g", "x", "y", "v", "b"]);
         for letter in ["", "D", "t", "z", "dd", "d ", "=", "é"] {
             assert_eq!(Service::of_letter(letter), None, "{letter:?}");
         }
@@ -505,6 +544,35 @@ mod tests {
                 ("40 FF", "21"),
             ],
         );
+    }
+
+    #[test]
+    fn book_lines() {
+        check(
+            Service::Book,
+            [
+                ("01 07 03 41 42 43", "0 1 | 7 3 3 ! 12 = 01 07 03 41 42 43"),
+                (
+                    "02 03 02 0F 01 41 42 43",
+                    "0 2 | 3 5 2 | 15 7 1 ! 12 = 02 03 02 0f 01 41 42 43",
+                ),
+                ("", "1 ! 1"),
+                ("00", "32 ! 32"),
+                ("11", "32 ! 32"),
+                ("01 10", "1 ! 1"),
+                ("01 10 01 41", "32 ! 32"),
+                ("01 07 00", "32 ! 32"),
+                ("01 07 C9", "32 ! 32"),
+                ("02 03 01 03 01 41 42", "32 ! 32"),
+                ("01 07 03 41 42", "1 ! 1"),
+                ("01 07 03 41 42 43 44", "4 ! 4"),
+            ],
+        );
+        let table: String = (0..16).map(|slot| format!(" {slot:02x} c8")).collect();
+        let bytes = format!("10{table}{}", " ff".repeat(3200));
+        let templates = (0..16).map(|slot| format!(" | {slot} {} 200", 33 + 200 * slot));
+        let expected = format!("0 16{} ! 12 = {bytes}", templates.collect::<String>());
+        check(Service::Book, [(&bytes, &expected)]);
     }
 
     #[test]

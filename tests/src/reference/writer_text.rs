@@ -7,6 +7,7 @@
 //! that do not make fields are answered `malformed`.
 
 use super::acyclic_text;
+use super::book;
 use super::configuration::{self, Identifier, Module, Side};
 use super::control::{self, GlobalControl, SetSlaveAdr};
 use super::diagnosis::{self, Channel, Header};
@@ -62,11 +63,14 @@ pub enum Writer {
     /// A typed value: its code, 9 for the bits of a NaN, and four bytes, of which
     /// a short value has the last; a Boolean is a flag there.
     TypedValue,
+    /// A template book: how many slots there are and the slots, how many lengths
+    /// there are and the lengths, one byte each; the bodies are lent.
+    Book,
 }
 
 impl Writer {
     /// Every writer, the parameters in both modes.
-    pub const ALL: [Writer; 13] = [
+    pub const ALL: [Writer; 14] = [
         Writer::Diagnosis,
         Writer::DeviceBlock,
         Writer::ModuleBlock,
@@ -80,6 +84,7 @@ impl Writer {
         Writer::Dpv1Call,
         Writer::Dpv1Answer,
         Writer::TypedValue,
+        Writer::Book,
     ];
 
     /// What stands after `>` in the line that announces its fields.
@@ -98,6 +103,7 @@ impl Writer {
             Writer::Dpv1Call => "x",
             Writer::Dpv1Answer => "y",
             Writer::TypedValue => "v",
+            Writer::Book => "b",
         }
     }
 
@@ -123,6 +129,7 @@ impl Writer {
             Writer::Dpv1Call => "DPV1 call writer",
             Writer::Dpv1Answer => "DPV1 answer writer",
             Writer::TypedValue => "typed value writer",
+            Writer::Book => "template book writer",
         }
     }
 
@@ -142,6 +149,7 @@ impl Writer {
             Writer::Dpv1Call => acyclic_text::call_writer_line,
             Writer::Dpv1Answer => acyclic_text::answer_writer_line,
             Writer::TypedValue => acyclic_text::typed_writer_line,
+            Writer::Book => book_line,
         };
         line(bytes).unwrap_or_else(|| String::from(MALFORMED))
     }
@@ -290,6 +298,20 @@ fn global_control_line(bytes: &[u8]) -> Option<String> {
     Some(written(room, write))
 }
 
+fn book_line(bytes: &[u8]) -> Option<String> {
+    let (room, rest) = bytes.split_first()?;
+    let (slots, rest) = split_counted(rest)?;
+    let (lengths, bodies) = split_counted(rest)?;
+    let write = |out: &mut [u8]| book::write(slots, lengths, bodies, out);
+    Some(written(*room, write))
+}
+
+/// As many bytes as the first byte says, and what follows them.
+fn split_counted(bytes: &[u8]) -> Option<(&[u8], &[u8])> {
+    let (count, rest) = bytes.split_first()?;
+    rest.split_at_checked(usize::from(*count))
+}
+
 #[cfg(test)]
 mod tests {
     use super::*;
@@ -329,7 +351,7 @@ mod tests {
         }
         let letters = Writer::ALL.map(Writer::letter);
         let expected = [
-            "d", "e", "m", "h", "p", "q", "n", "c", "a", "g", "x", "y", "v",
+            "d", "e", "m", "h", "p", "q", "n", "c", "a", "g", "x", "y", "v", "b",
         ];
         assert_eq!(letters, expected);
         for letter in ["", "D", "t", "X", "z", "dd", "d ", ">", "é"] {
@@ -895,5 +917,65 @@ mod tests {
             out[0] = 0;
             Err(21)
         });
+    }
+
+    #[test]
+    fn book_lines() {
+        check(
+            Writer::Book,
+            [
+                ("06 01 07 01 03 41 42 43", "0 = 01 07 03 41 42 43"),
+                ("FF 01 07 01 03 41 42 43", "0 = 01 07 03 41 42 43"),
+                ("05 01 07 01 03 41 42 43", "11"),
+                ("00 01 07 01 03 41 42 43", "11"),
+                (
+                    "FF 02 03 0F 02 02 01 41 42 43",
+                    "0 = 02 03 02 0f 01 41 42 43",
+                ),
+            ],
+        );
+        check_all(
+            Writer::Book,
+            "32",
+            [
+                "FF 00 00",
+                "00 00 00",
+                "FF 01 10 01 01 41",
+                "FF 01 07 01 00",
+                "FF 01 07 00",
+                "FF 00 01 03",
+                "FF 02 07 08 01 01 41",
+                "FF 01 07 02 01 01 41",
+                "FF 02 03 03 02 01 01 41 42",
+                "FF 02 04 03 02 01 01 41 42",
+                "FF 01 07 01 03 41 42",
+                "FF 01 07 01 03 41 42 43 44",
+            ],
+        );
+        check_longer(
+            Writer::Book,
+            [
+                ("FF 01 07 01 C9", " FF", 201, "32"),
+                (
+                    "FF 11 00 01 02 03 04 05 06 07 08 09 0A 0B 0C 0D 0E 0F 10 11",
+                    " 01",
+                    34,
+                    "32",
+                ),
+            ],
+        );
+        check_all(
+            Writer::Book,
+            MALFORMED,
+            [
+                "",
+                "FF",
+                "FF 00",
+                "FF 01",
+                "FF 01 07",
+                "FF 01 07 01",
+                "FF 02 03 04 02 01",
+            ],
+        );
     }
 }

@@ -1,14 +1,19 @@
 //! Samples of every service's data by the service, and those of the vectors.
 
-use super::{acyclic, configuration, control, diagnosis, parameters, typed};
+use super::{acyclic, books, configuration, control, diagnosis, parameters, typed};
 use super::{cut_short, group, lengthened, often_up_to, with_one_byte_changed, Group};
 use crate::random::Random;
 use crate::reference::control::{GLOBAL_CONTROL_LENGTH, SET_SLAVE_ADR_LENGTH};
 use crate::reference::parameters::Mode;
 use crate::reference::service_text::Service;
+use std::iter;
 
-/// The most bytes of a line of the vectors.
+/// The most bytes of a line of the vectors that holds no book, nor its fields.
 pub(super) const LONGEST_LINE: usize = 512;
+/// The most bytes of a line that does.
+pub(super) const LONGEST_BOOK_LINE: usize = 4096;
+/// The most bytes of all books of the vectors but one, which is the longest.
+const SHORT_BOOK: usize = 48;
 
 /// Makes one sample.
 type Make = dyn Fn(&mut Random) -> Vec<u8>;
@@ -40,6 +45,7 @@ pub fn refusals(service: Service) -> &'static [u8] {
         Service::Parameters(_) | Service::SetSlaveAdr | Service::GlobalControl => &[20, 21],
         Service::Dpv1Call | Service::Dpv1Answer => &[20, 21, 28],
         Service::TypedValue => &[20, 29],
+        Service::Book => &[1, 4, 32],
     }
 }
 
@@ -54,6 +60,7 @@ pub fn any_valid(random: &mut Random, service: Service) -> Vec<u8> {
         Service::Dpv1Call => acyclic::any_call(random),
         Service::Dpv1Answer => acyclic::any_answer(random),
         Service::TypedValue => typed::any_valid(random),
+        Service::Book => books::any_valid(random),
     }
 }
 
@@ -76,6 +83,7 @@ pub fn all_forms(random: &mut Random, service: Service) -> Vec<Vec<u8>> {
         Service::Dpv1Call => acyclic::all_calls(random),
         Service::Dpv1Answer => acyclic::all_answers(random),
         Service::TypedValue => typed::all_forms(random),
+        Service::Book => books::all_forms(random),
     }
 }
 
@@ -90,7 +98,17 @@ fn few_forms(random: &mut Random, service: Service) -> Vec<Vec<u8>> {
         Service::Dpv1Call => acyclic::few_calls(random),
         Service::Dpv1Answer => acyclic::few_answers(random),
         Service::TypedValue => typed::few_forms(),
+        Service::Book => few_books(random),
     }
+}
+
+/// Short books of any shape, and the longest of all.
+fn few_books(random: &mut Random) -> Vec<Vec<u8>> {
+    const FEW: usize = 6;
+    let longest = books::all_forms(random).into_iter().max_by_key(Vec::len);
+    let any = iter::repeat_with(|| books::any_valid(random));
+    let short = any.filter(|book| book.len() <= SHORT_BOOK);
+    short.take(FEW).chain(longest).collect()
 }
 
 fn bytes_of(samples: Vec<configuration::Sample>) -> Vec<Vec<u8>> {
@@ -119,6 +137,7 @@ pub fn damages(service: Service) -> Vec<Source> {
         Service::Dpv1Call => call_damages(),
         Service::Dpv1Answer => answer_damages(),
         Service::TypedValue => typed_damages(),
+        Service::Book => book_damages(),
     };
     sources.extend(of_any_data.map(|(name, damage)| {
         Source::new(name, move |random| {
@@ -188,6 +207,27 @@ fn typed_damages() -> Vec<Source> {
     ]
 }
 
+fn book_damages() -> Vec<Source> {
+    vec![
+        Source::new("no bytes", books::no_count),
+        Source::new("count wrong", books::count_wrong),
+        Source::new("table cut short", books::table_cut),
+        Source::new("slot above 15", books::slot_above_15),
+        Source::new("slots not rising", books::slots_not_rising),
+        Source::new("length wrong", books::length_wrong),
+        Source::new("length wrong, bodies right", book_length_wrong),
+        Source::new("bodies cut short", books::bodies_cut),
+    ]
+}
+
+/// A book with one length made 0 or above 200, and the bodies as they were.
+fn book_length_wrong(random: &mut Random) -> Vec<u8> {
+    let mut bytes = books::any_valid(random);
+    let template = random.below(bytes[0].into());
+    bytes[2 + 2 * template] = *random.pick(&[0, 201, 255]);
+    bytes
+}
+
 /// Data that was never valid, or is by chance.
 pub fn noises(service: Service) -> Vec<Source> {
     const NAME: &str = "any bytes of the right length";
@@ -211,6 +251,10 @@ pub fn noises(service: Service) -> Vec<Source> {
             "any bytes after a code",
             typed::noise_after_code,
         )),
+        Service::Book => Some(Source::new("any bytes after a count", |random| {
+            let count = random.between(1, 16) as u8;
+            [&[count], &any_bytes(random)[..]].concat()
+        })),
         // Any bytes are of a right length often enough.
         Service::Parameters(_) | Service::Configuration => None,
     });
@@ -241,8 +285,13 @@ fn groups_of(random: &mut Random, service: Service) -> Vec<Group> {
         groups.push(group("worked row of document 01", vec![row.to_vec()]));
     }
     groups.push(group("valid", few_forms(random, service)));
+    let most = match service {
+        Service::Book => SHORT_BOOK,
+        _ => LONGEST_LINE,
+    };
     for source in damages(service).iter().chain(&noises(service)) {
-        let samples = (0..EACH).map(|_| source.sample(random));
+        let samples = iter::repeat_with(|| source.sample(random));
+        let samples = samples.filter(|bytes| bytes.len() <= most).take(EACH);
         groups.push(group(source.name, samples.collect()));
     }
     groups
@@ -253,6 +302,7 @@ fn worked_row(service: Service) -> Option<&'static [u8]> {
     match service {
         Service::Diagnosis => Some(&diagnosis::WORKED_ROW),
         Service::Configuration => Some(&configuration::WORKED_ROW),
+        Service::Book => Some(&books::WORKED_BOOK),
         Service::Parameters(_)
         | Service::SetSlaveAdr
         | Service::GlobalControl
@@ -272,6 +322,13 @@ mod tests {
         let answer = service.answer(bytes);
         let number = answer.split(' ').next().expect("a number");
         number.parse().expect("a number")
+    }
+
+    fn longest_line(service: Service) -> usize {
+        match service {
+            Service::Book => LONGEST_BOOK_LINE,
+            _ => LONGEST_LINE,
+        }
     }
 
     /// The numbers of the service and 0.
@@ -301,7 +358,7 @@ mod tests {
             for source in damages(service).iter().chain(&noises(service)) {
                 for _ in 0..1000 {
                     let bytes = source.sample(random);
-                    assert!(bytes.len() <= LONGEST_LINE, "{}", source.name);
+                    assert!(bytes.len() <= longest_line(service), "{}", source.name);
                     numbers.insert(number(service, &bytes));
                 }
             }

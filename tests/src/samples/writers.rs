@@ -1,9 +1,10 @@
 //! Fields to write, right and wrong, as lines of the vectors.
 
-use super::services::LONGEST_LINE;
-use super::{acyclic_fields, configuration, control, diagnosis, parameters, typed};
+use super::services::{LONGEST_BOOK_LINE, LONGEST_LINE};
+use super::{acyclic_fields, books, configuration, control, diagnosis, parameters, typed};
 use super::{group, often_up_to, Group};
 use crate::random::Random;
+use crate::reference::book;
 use crate::reference::configuration::{Identifier, Side};
 use crate::reference::parameters::Mode;
 use crate::reference::writer_text::Writer;
@@ -28,6 +29,7 @@ pub fn refusals(writer: Writer) -> &'static [u8] {
         }
         Writer::Dpv1Answer => &[11, 20, 21, 28],
         Writer::TypedValue => &[11, 12],
+        Writer::Book => &[11, 32],
     }
 }
 
@@ -39,9 +41,17 @@ pub fn line(random: &mut Random, writer: Writer) -> Vec<u8> {
         9..=13 => wrong(random, writer),
         _ => wrong_in_several_places(random, writer),
     };
-    fields.truncate(LONGEST_LINE - 1);
+    fields.truncate(longest_line(writer) - 1);
     let room = room(random, to_be_stored(writer, &fields));
     [&[room], &fields[..]].concat()
+}
+
+/// The most bytes of a line of the writer.
+fn longest_line(writer: Writer) -> usize {
+    match writer {
+        Writer::Book => LONGEST_BOOK_LINE,
+        _ => LONGEST_LINE,
+    }
 }
 
 /// A line whose bytes do not make fields.
@@ -61,6 +71,12 @@ pub fn malformed(random: &mut Random, writer: Writer) -> Vec<u8> {
             line.truncate(1 + fewest(writer));
             let surplus = random.between(1, 20);
             line.extend(random.bytes(surplus));
+        }
+        1 if writer == Writer::Book => {
+            // Cut among the slots or the lengths.
+            let slots = usize::from(line[1]);
+            let lengths = usize::from(line[2 + slots]);
+            line.truncate(random.between(0, 2 + slots + lengths));
         }
         _ => line.truncate(random.between(0, fewest(writer))),
     }
@@ -93,7 +109,7 @@ fn fewest(writer: Writer) -> usize {
         Writer::Parameters(Mode::Dpv1) => 10,
         Writer::Module => 9,
         Writer::SetSlaveAdr | Writer::Dpv1Call | Writer::Dpv1Answer => 4,
-        Writer::GlobalControl => 2,
+        Writer::GlobalControl | Writer::Book => 2,
         Writer::TypedValue => 5,
     }
 }
@@ -132,6 +148,8 @@ fn to_be_stored(writer: Writer, fields: &[u8]) -> usize {
         (Writer::Dpv1Call | Writer::Dpv1Answer, [4, ..]) => 1,
         (Writer::TypedValue, [1 | 2 | 5, ..]) => 2,
         (Writer::TypedValue, [3 | 6, ..]) => 3,
+        // There is one count instead of two.
+        (Writer::Book, bytes) => bytes.len() - 1,
         // The kind takes the place of the number, and other fields their own.
         (_, bytes) => bytes.len(),
     }
@@ -170,6 +188,7 @@ fn right(random: &mut Random, writer: Writer) -> Vec<u8> {
             let value = typed::right_value(random);
             typed::value_line(random, value)
         }
+        Writer::Book => right_book(random),
     }
 }
 
@@ -190,6 +209,7 @@ fn wrong(random: &mut Random, writer: Writer) -> Vec<u8> {
             let value = typed::wrong_value(random);
             typed::value_line(random, value)
         }
+        Writer::Book => wrong_book(random),
     });
     // Damaged data need not make fields any more.
     let mut fields = samples.filter(|bytes| {
@@ -209,6 +229,8 @@ fn wrong_in_several_places(random: &mut Random, writer: Writer) -> Vec<u8> {
         Writer::ChannelBlock => {}
         // Nothing else can be wrong.
         Writer::TypedValue => {}
+        // The bodies too.
+        Writer::Book => fields.extend(random.bytes(3)),
         Writer::Module => spoil_module(random, &mut fields),
         Writer::SetSlaveAdr | Writer::GlobalControl | Writer::Dpv1Call | Writer::Dpv1Answer => {
             let count = often_up_to(random, 1, 3, LONGEST_LINE);
@@ -301,6 +323,35 @@ fn spoil_module(random: &mut Random, fields: &mut Vec<u8>) {
     }
 }
 
+/// The fields of a right book for which there can be room.
+fn right_book(random: &mut Random) -> Vec<u8> {
+    let any = iter::repeat_with(|| books::any_fields_that_are_right(random));
+    let mut small = any.filter(|fields| fields.bytes().len() <= MOST_ROOM);
+    book_line(&small.next().expect("they never end"))
+}
+
+/// The fields of a wrong book, with counts that are a byte each.
+fn wrong_book(random: &mut Random) -> Vec<u8> {
+    let any = iter::repeat_with(|| books::any_fields(random));
+    let mut wrong = any.filter(|fields| {
+        let out = &mut [0; books::LONGEST];
+        let counts = [fields.slots.len(), fields.lengths.len()];
+        counts.iter().all(|count| *count < 256)
+            && book::write(&fields.slots, &fields.lengths, &fields.bodies, out).is_err()
+    });
+    book_line(&wrong.next().expect("they never end"))
+}
+
+fn book_line(fields: &books::Fields) -> Vec<u8> {
+    let books::Fields {
+        slots,
+        lengths,
+        bodies,
+    } = fields;
+    let (slot_count, length_count) = (slots.len() as u8, lengths.len() as u8);
+    [&[slot_count], &slots[..], &[length_count], lengths, bodies].concat()
+}
+
 /// The fields of the vectors: the same at every call.
 pub fn groups() -> Vec<(Writer, Group)> {
     let random = &mut Random::new(2029);
@@ -380,7 +431,7 @@ mod tests {
             let mut counts: BTreeMap<u8, usize> = BTreeMap::new();
             for _ in 0..LINES {
                 let line = line(random, writer);
-                assert!(line.len() <= LONGEST_LINE, "{writer:?} {line:02X?}");
+                assert!(line.len() <= longest_line(writer), "{writer:?} {line:02X?}");
                 let number = first_number(writer, &line).expect("fields");
                 *counts.entry(number).or_default() += 1;
             }
@@ -541,7 +592,8 @@ mod tests {
             }
             assert!((0..=fewest(writer)).all(|length| lengths.contains(&length)));
             let is_more = lengths.contains(&(1 + fewest(writer)));
-            let can_be_more = !choices(writer).is_empty() || writer == Writer::ChannelBlock;
+            let can_be_more = !choices(writer).is_empty()
+                || matches!(writer, Writer::ChannelBlock | Writer::Book);
             assert_eq!(is_more, can_be_more, "{writer:?}");
         }
     }
