@@ -4,5 +4,6 @@ mod writing;
 
 pub use reading::Reading;
 pub use reading::Way;
+pub use reading::carried;
 pub use reading::read;
 pub use writing::write;

@@ -4,7 +4,7 @@ ghost use Prim.Native.Nat.{_+_, _≤_};
 ghost use lib.ListN.{length};
 ghost use Rattle.access.specs.Route.{routeOf};
 ghost use Rattle.content.specs.Reading.{endOf};
-ghost use Rattle.service.specs.Reading.{placedAt, routedBy, readOf};
+ghost use Rattle.service.specs.Reading.{placedAt, routedBy, serviceIn, readOf};
 use access::Route;
 use content::Content;
 use content::UserData;
@@ -36,7 +36,7 @@ pub enum Reading {
 
 // The answer for user data that stand at `at` in the telegram.
 fn placed(format: Format, header: Header, way: Way, at: usize, found: UserData) -> Reading
-    requires { ⌜ at + endOf found ≤ 255 ⌝ }
+    requires { ⌜ at + endOf found ≤ 18446744073709551615 ⌝ }
     ensures { λ r. ⌜ r ≡ placedAt format header way at found ⌝ }
 {
     match found {
@@ -58,7 +58,7 @@ fn placed(format: Format, header: Header, way: Way, at: usize, found: UserData) 
 
 // The service that the header names, with the user data that stand at `at` in the telegram.
 fn routed(format: Format, header: Header, at: usize, user: &[u8], mode: Mode) -> Reading
-    requires { ⌜ at + length (now user) ≤ 255 ⌝ }
+    requires { ⌜ at + length (now user) ≤ 18446744073709551615 ⌝ }
     ensures { λ r. ⌜ r ≡ routedBy (routeOf header) format header at (now (user .entry)) mode ⌝ }
 {
     let route = access::route_of(header);
@@ -75,12 +75,11 @@ fn routed(format: Format, header: Header, at: usize, user: &[u8], mode: Mode) ->
     }
 }
 
-// Reads a service: all of the lent slice is one telegram. A token, a short confirmation and a bare
-// answer carry none.
-pub fn read(bytes: &[u8], mode: Mode) -> Reading
-    ensures { λ r. ⌜ r ≡ readOf (now (bytes .entry)) mode ⌝ }
+// The service that a telegram carries which `fdl::read` read from these bytes already. A token, a short
+// confirmation and a bare answer carry none. User data that do not lie inside the bytes count as empty.
+pub fn carried(bytes: &[u8], telegram: fdl::Reading, mode: Mode) -> Reading
+    ensures { λ r. ⌜ r ≡ serviceIn (now (bytes .entry)) mode telegram ⌝ }
 {
-    let telegram = fdl::read(bytes);
     match telegram {
         fdl::Reading::Confirmation => Reading::Refused(Refusal { number: 10 }),
         fdl::Reading::Token { da: _, sa: _ } => Reading::Refused(Refusal { number: 10 }),
@@ -92,4 +91,11 @@ pub fn read(bytes: &[u8], mode: Mode) -> Reading
         } => routed(format, header, start, octets::part(bytes, start, len), mode),
         fdl::Reading::Refused(refusal) => Reading::Refused(refusal),
     }
+}
+
+// Reads a service: all of the lent slice is one telegram.
+pub fn read(bytes: &[u8], mode: Mode) -> Reading
+    ensures { λ r. ⌜ r ≡ readOf (now (bytes .entry)) mode ⌝ }
+{
+    carried(bytes, fdl::read(bytes), mode)
 }

@@ -1,4 +1,4 @@
--- `service::reading::placed` meets its contract: by what the user data are; the part ends within 255 bytes.
+-- `service::reading::placed` meets its contract: by what the user data are; the part ends where a number can say.
 use Prim.Native.Nat.{_+_}
 use Rattle.content.specs.Reading.{endOf}
 use mathlib.Core.Path.{_≡_, ap}

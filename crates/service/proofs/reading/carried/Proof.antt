@@ -1,0 +1,79 @@
+-- `service::reading::carried` meets its contract: by what the telegram is; the part that is handed back ends where a number can say.
+use Prim.Native.Nat.{ℕ, _+_, _≤_}
+use mathlib.Core.Path.{sym, ap, _∙_}
+use mathlib.Core.List.{List}
+use native.Mathlib.Omega.{arith}
+use lib.Dec.{leb}
+use lib.ListN.{length}
+use denote.Ref.{now}
+use borrow.Author.Tests.{leb-true}
+use Rattle.octets.specs.Choice.{by-pick}
+use Rattle.octets.specs.Part.{partOf, part-short}
+use Rattle.access.specs.Route.{routeOf}
+use Rattle.service.specs.Reading.{routedBy, serviceIn}
+use borrow.Author.Needs.{needs}
+use Rattle.service.proofs.reading.carried.Statement.{statement}
+use Rattle.service.proofs.reading.carried.Tie as tie
+
+-- a part lies inside, or is empty
+ends : (s : List ℕ) (start len most : ℕ) → start ≤ most → length s ≤ most → start + length (partOf s start len) ≤ most
+unfolding partOf
+ends s start len most a b =
+    by-pick (λ (l : List ℕ). length l ≤ len → start + length l ≤ most) (leb (start + len) (length s)) (λ t i. omega (arith, leb-true (start + len) (length s) t))
+    (λ _ _. omega arith) (part-short s start len)
+
+enum-told : tie.Need-enum-told
+enum-told c = search needs
+
+enum-told-2 : tie.Need-enum-told-2
+enum-told-2 c = search needs
+
+enum-known-telegram : tie.Need-enum-known-telegram
+enum-known-telegram c = search needs
+
+part-requires : tie.Need-part-requires
+part-requires c κs = search needs
+
+routed-requires : tie.Need-routed-requires
+routed-requires c κs =
+    let t = c .before .before in
+    let s = now (t .before .before .before .args .bytes) in
+    let g = t .telegram .given in
+    let e = ap length (c .part .ensures) in
+    omega (arith, e, ends s (g .0 .1 .1 .0) (g .0 .1 .1 .1 .0) 18446744073709551615 (omega arith) (omega arith))
+
+enum-known-telegram-2 : tie.Need-enum-known-telegram-2
+enum-known-telegram-2 c = search needs
+
+returns : tie.Need-returns
+returns c = simp (c .enum-told .given .1)
+
+returns-2 : tie.Need-returns-2
+returns-2 c = simp (c .enum-told2 .given .1)
+
+returns-3 : tie.Need-returns-3
+returns-3 c =
+    let t = c .before .before .before in
+    let a = t .before .before .before .args in
+    let g = t .telegram .given in
+    let h = g .0 .1 .0 in
+    c .routed .ensures ∙ ap (λ (u : List ℕ). routedBy (routeOf h) (g .0 .0) h (g .0 .1 .1 .0) u (a .mode)) (c .before .part .ensures)
+    ∙ sym (ap (serviceIn (now (a .bytes)) (a .mode)) (g .1))
+
+returns-4 : tie.Need-returns-4
+returns-4 c = simp (c .before .telegram2 .given .1)
+
+pub carried-spec : {M : Type 1} → statement M
+carried-spec =
+    tie.close
+    (tie.spec
+    enum-told
+    enum-told-2
+    enum-known-telegram
+    part-requires
+    routed-requires
+    enum-known-telegram-2
+    returns
+    returns-2
+    returns-3
+    returns-4)
