@@ -228,6 +228,9 @@ pub record Acted : Type 0 where
   pub answer : Action
   pub buffer : List ℕ
 
+abbrev pub leaving : Action → (buffer : List ℕ) → Acted
+leaving a buffer = record { answer = a; buffer = buffer }
+
 -- the request stands at the front of the buffer; 11 where it does not fit
 abbrev pub acted : Move → (buffer : List ℕ) → Acted
 acted (go request o) buffer =

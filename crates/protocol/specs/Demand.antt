@@ -11,7 +11,7 @@ use Rattle.octets.specs.Choice.{pick, _and_}
 use Rattle.octets.specs.Front.{fine}
 use Rattle.book.specs.Contents.{Entry, InOrder}
 use Rattle.protocol.specs.Line.{Passage, Sending, stop, Damage}
-use Rattle.protocol.specs.Slots.{slotIn, filled, Sized}
+use Rattle.protocol.specs.Slots.{slotIn, filled}
 use Rattle.protocol.specs.Printer.{Station, guarded}
 use Rattle.protocol.specs.Printer as printer-step
 use Rattle.protocol.specs.Download.{Given, Config, after, sendings, bound, download}
@@ -42,9 +42,8 @@ pub record NotRefused (g : Given) (l : List Passage) (x : Station) : Type 0 wher
   pub in-order : InOrder 0 (g .book)
   pub some-templates : 1 ≤ length (g .book)
   pub templates : length (g .book) ≤ 16
-  -- the printer's own refusals, and that it has sixteen slots
+  -- the printer's own refusals
   pub station : printer-step.verdictOf (g .diagnosis) x ≡ fine
-  pub slots : Sized (x .slots)
   -- bytes that the line brings in place of a telegram are refused by framing
   pub damage : Damage FramingRefuses l
 

@@ -103,6 +103,10 @@ pub record Whole : Type 0 where
   pub reply : List ℕ
   pub request : List ℕ
 
+abbrev pub leaving : Downloaded → (lengths bodies reply request : List ℕ) → Whole
+leaving a lengths bodies reply request =
+    record { answer = a; slots = record { lengths = lengths; bodies = bodies }; reply = reply; request = request }
+
 -- how it ended. That it does is proved (Theorem): the second case never is.
 abbrev pub endedBy : Move → (sent : ℕ) → Printer → Downloaded
 endedBy (stop e) sent p = downloaded.Ended e sent p

@@ -1,3 +1,4 @@
+pub mod Check
 pub mod Bits
 pub mod Slots
 pub mod Telegrams

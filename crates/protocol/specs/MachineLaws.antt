@@ -1,3 +1,6 @@
 pub mod Printer
 pub mod Replies
 pub mod Controller
+pub mod Room
+pub mod States
+pub mod Stations

@@ -209,6 +209,10 @@ pub record Station : Type 0 where
   pub slots : Slots
   pub buffer : List ℕ
 
+-- as code has it: the state by value, and what is lent
+abbrev pub lending : Printer → (lengths bodies buffer : List ℕ) → Station
+lending p lengths bodies buffer = record { printer = p; slots = record { lengths = lengths; bodies = bodies }; buffer = buffer }
+
 -- after a telegram, and how many bytes of the buffer are sent
 pub record Heard : Type 0 where
   pub station : Station
@@ -308,6 +312,9 @@ pub record Stepped : Type 0 where
   pub answer : Reaction
   pub slots : Slots
   pub buffer : List ℕ
+
+abbrev pub leaving : Reaction → (lengths bodies buffer : List ℕ) → Stepped
+leaving r lengths bodies buffer = record { answer = r; slots = record { lengths = lengths; bodies = bodies }; buffer = buffer }
 
 abbrev pub stepped : Heard → Stepped
 stepped h =

@@ -6,20 +6,16 @@ use native.Mathlib.Decide.{decLt}
 use mathlib.Core.Path.{_≡_, refl, sym, ap, _∙_, subst}
 use mathlib.Core.Bool.{Bool, true, false}
 use mathlib.Core.List.{List, [], _∷_, _++_, append-nil}
-use lib.Dec.{ltb}
 use lib.ListN.{length, getD, take, drop}
 use borrow.Author.Tests.{ne-eqb}
 use Rattle.octets.specs.Choice.{pick, _and_, _or_, never}
-use Rattle.octets.specs.Fixed.{passed}
-use Rattle.octets.specs.Front.{Verdict, fine, fault}
-use Rattle.diagnosis.specs.Reading as diagnosis
+use Rattle.octets.specs.Front.{fine}
 use Rattle.book.specs.Contents.{Entry}
-use Rattle.protocol.specs.Endings.{isRefused, stopsAt}
+use Rattle.protocol.specs.Endings.{stopsAt}
 use Rattle.protocol.specs.Line as line
-use Rattle.protocol.specs.Line.{Passage, through, Sending, passageOf, restOf, stop, Damage}
-use Rattle.protocol.specs.Slots.{slotIn, tooLong, Sized, filled}
+use Rattle.protocol.specs.Line.{Passage, through, Sending, passageOf, restOf, go, stop, Damage}
+use Rattle.protocol.specs.Slots.{slotIn, Sized, filled}
 use Rattle.protocol.specs.Printer.{Station}
-use Rattle.protocol.specs.Printer as printer-step
 use Rattle.content.specs.declared.fields.Content.the-variants as content
 use Rattle.protocol.specs.Telegrams.{openingCode, countedCode}
 use Rattle.protocol.specs.Controller.{askFor}
@@ -32,7 +28,7 @@ use Rattle.protocol.specs.Lemmas.Replies.{Valid, valid}
 use Rattle.protocol.specs.Lemmas.Runs.{run-stop, transcript-add, transcript-stop, transcript-take, transcript-short, sent-counts, run-line, settles, damage-rest, asLost, damage-is-loss}
 use Rattle.protocol.specs.Lemmas.Groups.{concat, Apart, block-in, blocks-alone, templates-in, Each, each-at}
 use Rattle.protocol.specs.Lemmas.Chain.{apart-take, chain-ran, chain-sent, chain-counts}
-use Rattle.protocol.specs.Lemmas.Accepted.{not-refused}
+use Rattle.protocol.specs.Lemmas.Accepted.{usable, not-refused}
 use Rattle.protocol.specs.Lemmas.Ours.{ignores, next-new}
 use Rattle.protocol.specs.Lemmas.Follows.{Followed, fillAll, follows}
 use Rattle.protocol.specs.Lemmas.Means.{Says, says-none, ends-later, says, done-when, course-until}
@@ -40,6 +36,7 @@ use Rattle.protocol.specs.Lemmas.Stored.{isStored, storedIn, stored-are,
 use Rattle.protocol.specs.Lemmas.Shape.{code-at, apart-turns, turns-blocks, course-turns, course-templates, course-short}
 use Rattle.protocol.specs.Lemmas.Ends.{Passed, Before, done-passed, stop-passed, regular, stored-before, none-behind}
 use Rattle.protocol.specs.Lemmas.Opening.{q, first-request, firstSending, reply, stood, Unopened, Opens, opens, fails, first, opened-ran, opened-sent, opened-answered}
+use Rattle.protocol.specs.declared.controller.Controller.{Controller}
 use Rattle.protocol.specs.declared.controller.Ending.{Ending}
 use Rattle.protocol.specs.declared.controller.Ending.the-variants as ending
 use Rattle.protocol.specs.declared.controller.Job.the-variants as job
@@ -56,19 +53,9 @@ ended-sent g u v y h le =
     ∙ ap (λ (s : List Sending). line.transcript (hears g) (steps g) u y ++ s) (transcript-stop (hears g) (steps g) (v - u) (line.run (hears g) (steps g) u y) h)
     ∙ append-nil (line.transcript (hears g) (steps g) u y)
 
-diagnosis-valid : (diag : List ℕ) (x : Station) → printer-step.verdictOf diag x ≡ fine → Valid diag
-unfolding printer-step.verdictOf
-diagnosis-valid diag x e =
-    let room : Verdict = pick (ltb (length (x .buffer)) 255) (fault 11) fine in
-    let unread : Bool = printer-step.isRefused (diagnosis.readOf diag) in
-    let long : Bool = tooLong (x .slots .lengths) in
-    let slots = passed 12 (ltb 126 (x .printer .address)) (pick long (fault 12) (pick unread (fault 12) room)) e in
-    let read = passed 12 long (pick unread (fault 12) room) (slots .1) in
-    valid diag (passed 12 unread room (read .1) .0)
-
 module _ (g : Given) (l : List Passage) (x : Station) (ok : NotRefused g l x) where
   diag : Valid (g .diagnosis)
-  diag = diagnosis-valid (g .diagnosis) x (ok .station)
+  diag = valid (g .diagnosis) (usable (g .diagnosis) x (ok .station) .diagnosis)
 
   abbrev here : ℕ
   here = x .printer .address
@@ -239,6 +226,9 @@ module _ (g : Given) (l : List Passage) (x : Station) (ok : NotRefused g l x) wh
     unfolding download
     final-is = rw bound-is (first-ran rest ∙ settles (hears g) (steps g) (length (concat blocks)) rest opened stopped short ∙ last-run)
 
+    ends-so : final g l x .move ≡ stop (ideal .ending)
+    ends-so = ap (λ (y : Config). y .move) final-is ∙ followed .stops
+
     all-is : all g l x ≡ firstSent answer ∷ concat blocks
     all-is =
         rw bound-is (first-sent rest)
@@ -336,12 +326,12 @@ module _ (g : Given) (l : List Passage) (x : Station) (ok : NotRefused g l x) wh
         ∙ ap (λ (ts : List Entry). fillAll ts (x .slots)) (stored-are (g .settings) board (g .notYet) (ok .printer) (ok .controller) (ok .some-polls) 0 0 false (g .book) (restOf l) (ok .in-order) rest-damage)
         ∙ rw ours
 
-    module _ (i : ℕ) (u : Entry) (k : At (g .book) i u) where
+    module _ (z : Sized (x .slots)) (i : ℕ) (u : Entry) (k : At (g .book) i u) where
       abbrev isNew : Bool
       isNew = isStored here board (getD (ideal .requests) i []) u
 
       slot-is : slotIn (final g l x .printer .slots) (u .slot) ≡ pick isNew (filled (u .body) (slotIn (x .slots) (u .slot))) (slotIn (x .slots) (u .slot))
-      slot-is = rw slots-are (named here board (ideal .requests) 0 (g .book) (x .slots) i u (ok .in-order) (ok .slots) k)
+      slot-is = rw slots-are (named here board (ideal .requests) 0 (g .book) (x .slots) i u (ok .in-order) z k)
 
       new : isNew ≡ true → New g l x u
       new e = slot-is ∙ rw e
@@ -366,12 +356,12 @@ module _ (g : Given) (l : List Passage) (x : Station) (ok : NotRefused g l x) wh
     each-until : Each (UntilAnswered (g .settings .printer) (g .settings .repeats)) blocks
     each-until = course-until (g .settings) board (g .notYet) (ok .printer) (ok .controller) (ok .some-polls) 0 0 false (g .book) (restOf l) (ok .in-order) rest-damage
 
-    performed : Demand3 g l x
-    performed =
+    performed : Sized (x .slots) → Demand3 g l x
+    performed z =
         let r = regular (g .settings) board (g .notYet) (ok .printer) (ok .controller) (ok .some-polls) 0 false (g .book) (restOf l) in
         record {
           ending = ideal .ending;
-          ends = ap (λ (y : Config). y .move) final-is ∙ followed .stops;
+          ends = ends-so;
           within = within-bound;
           sent = all-sent;
           entries-used = line-used;
@@ -387,23 +377,34 @@ module _ (g : Given) (l : List Passage) (x : Station) (ok : NotRefused g l x) wh
           refused = λ k c d. said k .refused c d;
           refused-codes = λ k c d h. r .codes k c d h;
           strange = r .known;
-          done-new = λ h i u k. passed-new i u k (done-passed (suc i) (ideal .ending) h);
+          done-new = λ h i u k. passed-new z i u k (done-passed (suc i) (ideal .ending) h);
           no-opening-old = λ h. absurd (never (sym (r .opened) ∙ h));
-          before-new = λ n h i u k lt. passed-new i u k (stop-passed (suc i) n (ideal .ending) h lt);
-          there-new = λ i u k h w f. new i u k (rw f (written-there i w));
-          there-old = λ i u k h w. old i u k (rw (requests-at i) at w);
-          behind-old = λ n h i u k lt. behind i u k (record { at = n; before = omega arith; there = h });
-          others-old = λ s h. rw slots-are (unnamed here board (ideal .requests) 0 (g .book) (x .slots) s (ok .in-order) (ok .slots) h);
+          before-new = λ n h i u k lt. passed-new z i u k (stop-passed (suc i) n (ideal .ending) h lt);
+          there-new = λ i u k h w f. new z i u k (rw f (written-there i w));
+          there-old = λ i u k h w. old z i u k (rw (requests-at i) at w);
+          behind-old = λ n h i u k lt. behind z i u k (record { at = n; before = omega arith; there = h });
+          others-old = λ s h. rw slots-are (unnamed here board (ideal .requests) 0 (g .book) (x .slots) s (ok .in-order) z h);
           boarding = ap (λ (y : Config). y .printer .printer .boarding) final-is ∙ followed .guard;
         }
 
   -- The customer's third demand.
-  pub demand3 : Demand3 g l x
-  demand3 = by (first g x (ok .printer) (ok .controller) diag l (ok .damage))
+  pub demand3 : Sized (x .slots) → Demand3 g l x
+  demand3 z = by (first g x (ok .printer) (ok .controller) diag l (ok .damage))
     where
       by : Opens g x (ok .printer) (ok .controller) diag l → Demand3 g l x
-      by (opens ours t) = performed ours t
+      by (opens ours t) = performed ours t z
       by (fails u) = closed u
+
+  -- Whatever the slots are, no request is left after the bound.
+  pub all-are-sent : {request : List ℕ} {o : Controller} → final g l x .move ≡ go request o → ⊥
+  all-are-sent {request} {o} h = by (first g x (ok .printer) (ok .controller) diag l (ok .damage))
+    where
+      apart : {e : Ending} → final g l x .move ≡ stop e → ⊥
+      apart e = let z : _≡_ {A = ℕ} 0 1 = cc in omega arith
+
+      by : Opens g x (ok .printer) (ok .controller) diag l → ⊥
+      by (opens ours t) = apart (ends-so ours t)
+      by (fails u) = apart (ap (λ (y : Config). y .move) (closed-final u))
 
   -- ---- the course, from the line alone
 
@@ -411,7 +412,7 @@ module _ (g : Given) (l : List Passage) (x : Station) (ok : NotRefused g l x) wh
   pub course-from-line : x .printer .address ≡ g .settings .printer → passageOf l ≡ through
       → let c : Course = course (g .settings) (x .printer .boarding) (g .notYet) 0 false (g .book) (restOf l) in
       (drop 1 (all g l x) ≡ concat (concat (c .requests))) × (final g l x .move ≡ stop (c .ending))
-  course-from-line ours t = (ap (drop 1) (all-is ours t), ap (λ (y : Config). y .move) (final-is ours t) ∙ followed ours t .stops)
+  course-from-line ours t = (ap (drop 1) (all-is ours t), ends-so ours t)
 
   -- Bytes that framing refuses are as good as lost: both ends and the number of sendings are the same.
   pub damage-is-as-loss : let z : Config = download g (asLost l) x in
@@ -429,7 +430,7 @@ module _ (c : Settings) (book line notYet diagnosis : List ℕ) (x : Station) (r
 
   -- Demand 3 holds of it,
   pub download-holds : Demand3 here-given (passagesOf line) x
-  download-holds = demand3 here-given (passagesOf line) x (not-refused c book line notYet diagnosis x request z e)
+  download-holds = demand3 here-given (passagesOf line) x (not-refused c book line notYet diagnosis x request e) z
 
   -- and its answer is the ending of which it speaks.
   pub download-answers : downloadOf c book line notYet diagnosis x request .answer

@@ -2,6 +2,7 @@
 use Prim.Native.Nat.{ℕ, _≤_}
 use native.Mathlib.Omega.{arith}
 use mathlib.Core.Path.{_≡_, refl}
+use mathlib.Core.Bool.{false}
 use mathlib.Core.List.{List, [], _∷_}
 use lib.Dec.{eqb, ltb}
 use lib.ListN.{length}
@@ -9,12 +10,13 @@ use borrow.Author.Tests.{ltb-false, eqb-false}
 use Rattle.octets.specs.Choice.{pick, by-pick}
 use Rattle.octets.specs.Fixed.{judged, passed, fault-fine}
 use Rattle.octets.specs.Front.{Verdict, fine, fault}
+use Rattle.diagnosis.specs.Reading as diagnosis
 use Rattle.book.specs.Contents.{InOrder, templatesOf}
 use Rattle.book.specs.Laws.{templates-in-order}
 use Rattle.book.specs.Reading as book-format
 use Rattle.book.specs.declared.answers.Reading as book-type
 use Rattle.book.specs.declared.answers.Reading.the-variants as book-reading
-use Rattle.protocol.specs.Slots.{Sized}
+use Rattle.protocol.specs.Slots.{tooLong}
 use Rattle.protocol.specs.Words.{FramingRefuses}
 use Rattle.protocol.specs.Line.{DamagedBy, Damage}
 use Rattle.protocol.specs.Printer as printer-step
@@ -24,19 +26,20 @@ use Rattle.protocol.specs.Download.{given, passagesOf, lineVerdict, room
 use Rattle.protocol.specs.Demand.{NotRefused}
 use Rattle.protocol.specs.declared.controller.Settings.{Settings}
 
-both-fine : (v w : Verdict) → judged fault v w ≡ fine → (v ≡ fine) × (w ≡ fine)
+pub both-fine : (v w : Verdict) → judged fault v w ≡ fine → (v ≡ fine) × (w ≡ fine)
 both-fine fine w e = (refl, e)
 both-fine (fault k) w e = absurd (fault-fine e)
 
-record Settled (c : Settings) : Type 0 where
-  printer : c .printer ≤ 126
-  controller : c .controller ≤ 126
-  unequal : c .printer ≡ c .controller → ⊥
-  repeats : c .repeats ≤ 7
-  some-polls : 1 ≤ c .polls
-  polls : c .polls ≤ 31
+-- settings that may be used
+pub record Settled (c : Settings) : Type 0 where
+  pub printer : c .printer ≤ 126
+  pub controller : c .controller ≤ 126
+  pub unequal : c .printer ≡ c .controller → ⊥
+  pub repeats : c .repeats ≤ 7
+  pub some-polls : 1 ≤ c .polls
+  pub polls : c .polls ≤ 31
 
-settled : (c : Settings) → settingsVerdict c ≡ fine → Settled c
+pub settled : (c : Settings) → settingsVerdict c ≡ fine → Settled c
 unfolding settingsVerdict
 settled c e =
     let most : Verdict = pick (ltb 31 (c .polls)) (fault 12) fine in
@@ -59,6 +62,24 @@ settled c e =
       polls = ltb-false 31 (c .polls) (m .0);
     }
 
+-- a printer that may be used
+pub record Usable (diag : List ℕ) (x : Station) : Type 0 where
+  pub address : ltb 126 (x .printer .address) ≡ false
+  pub lengths : tooLong (x .slots .lengths) ≡ false
+  pub diagnosis : printer-step.isRefused (diagnosis.readOf diag) ≡ false
+  pub room : ltb (length (x .buffer)) 255 ≡ false
+
+pub usable : (diag : List ℕ) (x : Station) → printer-step.verdictOf diag x ≡ fine → Usable diag x
+unfolding printer-step.verdictOf
+usable diag x e =
+    let small : Verdict = pick (ltb (length (x .buffer)) 255) (fault 11) fine in
+    let unread : Verdict = pick (printer-step.isRefused (diagnosis.readOf diag)) (fault 12) small in
+    let long : Verdict = pick (tooLong (x .slots .lengths)) (fault 12) unread in
+    let a = passed 12 (ltb 126 (x .printer .address)) long e in
+    let l = passed 12 (tooLong (x .slots .lengths)) unread (a .1) in
+    let d = passed 12 (printer-step.isRefused (diagnosis.readOf diag)) small (l .1) in
+    record { address = a .0; lengths = l .0; diagnosis = d .0; room = passed 11 (ltb (length (x .buffer)) 255) fine (d .1) .0 }
+
 record Ordered (book : List ℕ) : Type 0 where
   in-order : InOrder 0 (templatesOf book)
   some : 1 ≤ length (templatesOf book)
@@ -77,10 +98,10 @@ undamaged [] = tt
 undamaged (b ∷ line) =
     (by-pick (DamagedBy FramingRefuses) (eqb b 1) (λ _. tt) (λ _. by-pick (DamagedBy FramingRefuses) (eqb b 2) (λ _. tt) (λ _. tt)), undamaged line)
 
-pub not-refused : (c : Settings) (book line notYet diagnosis : List ℕ) (x : Station) (request : List ℕ) → Sized (x .slots)
+pub not-refused : (c : Settings) (book line notYet diagnosis : List ℕ) (x : Station) (request : List ℕ)
     → verdictOf c book line diagnosis x request ≡ fine → NotRefused (given c book notYet diagnosis) (passagesOf line) x
 unfolding verdictOf
-not-refused c book line notYet diagnosis x request z e =
+not-refused c book line notYet diagnosis x request e =
     let printers : Verdict = judged fault (printer-step.verdictOf diagnosis x) (roomVerdict request) in
     let lines : Verdict = judged fault (lineVerdict line) printers in
     let a = both-fine (settingsVerdict c) (judged fault (bookVerdict (book-format.readOf book)) lines) e in
@@ -100,6 +121,5 @@ not-refused c book line notYet diagnosis x request z e =
       some-templates = o .some;
       templates = o .most;
       station = p .0;
-      slots = z;
       damage = undamaged line;
     }

@@ -40,7 +40,7 @@ use Rattle.content.specs.declared.fields.Content.the-variants as content
 use Rattle.service.specs.Laws.{reads-back}
 use Rattle.service.specs.Reading.{readOf}
 use Rattle.service.specs.Writing.{telegramFor, routeVerdict, verdictOf}
-use Rattle.protocol.specs.Telegrams.{carrying, openingCode, countedCode, replyCode, openingBytes, writeBytes, pollBytes, answerOf}
+use Rattle.protocol.specs.Telegrams.{carrying, openingCode, countedCode, replyCode, openingBytes, writeBytes, pollBytes, answerOf, outcomeBytes}
 use Rattle.protocol.specs.Printer.{slaveDiag, write, poll, elsewhere, opening, counted, askOf, askBy, askIn, isSrd, fcbOf, receivedBy, receivedOf}
 use Rattle.protocol.specs.Controller.{gotOf, gotBy}
 use Rattle.protocol.specs.Words.{namesStation, asked}
@@ -151,6 +151,12 @@ module _ (to from : ℕ) (t : to ≤ 126) (f : from ≤ 126) where
       fine-when c to from replyCode [] _ (result-header to from) _
       (writable to from replyCode 51 51 (bytesFor c []) t f (ap isReserved (reply-class to from)) refl refl (omega (arith, bytes-long c [], fixed-small c)))
       (result-route to from) e
+
+-- a result's telegram
+pub outcome-telegram : (to from : ℕ) (o : Outcome)
+    → outcomeBytes to from o ≡ telegram-writing.telegramOf Sd2 (headerOf service.Dpv1 to from replyCode) (bytesFor (content.Dpv1Answer (answerOf o)) [])
+unfolding telegramFor
+outcome-telegram to from o = refl
 
 -- ---- what is read
 

@@ -61,7 +61,7 @@ module _ (to from : ℕ) (t : to ≤ 126) (f : from ≤ 126) (diag : List ℕ) (
   abbrev head : Header
   head = headerOf service.SlaveDiag to from replyCode
 
-  diagnosis-fine : telegram-writing.verdictOf Sd2 head diag ≡ fine
+  pub diagnosis-fine : telegram-writing.verdictOf Sd2 head diag ≡ fine
   diagnosis-fine =
       rw (diagnosis-header to from)
       (writable to from replyCode 62 60 diag t f (ap isReserved (reply-class to from)) refl refl (read-is-tiled diag (v .read) .short))

@@ -99,7 +99,7 @@ module _ (c : Settings) (s : List ℕ) where
 -- ---- what follows a request
 
 -- how a download ends at a job for template k, where `left` is the book from it on and g was got
-data Ends (k : ℕ) (j : Job) (left : List Entry) (g : Got) : Ending → Type 0 where
+pub data Ends (k : ℕ) (j : Job) (left : List Entry) (g : Got) : Ending → Type 0 where
   done : {n : ℕ} {t : Entry} → j ≡ job.Poll n → g ≡ positive 1 (t .slot) (length (t .body)) → left ≡ t ∷ [] → Ends k j left g ending.Done
   past : left ≡ [] → Ends k j left g ending.Done
   refused : {n code1 code2 : ℕ} → j ≡ job.Poll n → g ≡ negative code1 code2 → Ends k j left g (ending.Refused k code1 code2)
@@ -107,11 +107,16 @@ data Ends (k : ℕ) (j : Job) (left : List Entry) (g : Got) : Ending → Type 0 
   late : Ends k j left g (ending.NotReady k)
   strange : Ends k j left g (ending.Strange k)
 
+-- the polls left after the first poll of a template, and after each further one
+pub data PollsLeft (c : Settings) : Job → ℕ → Type 0 where
+  all : PollsLeft c job.Write (c .polls - 1)
+  fewer : {n : ℕ} → PollsLeft c (job.Poll (suc n)) n
+
 -- every move from it
-data After (c : Settings) (k : ℕ) (j : Job) (fcb : Bool) (r : ℕ) (left : List Entry) (g : Got) : Move → Type 0 where
+pub data After (c : Settings) (k : ℕ) (j : Job) (fcb : Bool) (r : ℕ) (left : List Entry) (g : Got) : Move → Type 0 where
   repeated : {n : ℕ} {t : Entry} {ts : List Entry} → g ≡ nothing → r ≡ suc n → left ≡ t ∷ ts
       → After c k j fcb r left g (go (requestBytes c j fcb t) (controller.Asking k j fcb n))
-  polled : {n : ℕ} {t : Entry} {ts : List Entry} → g ≡ confirmation → left ≡ t ∷ ts
+  polled : {n : ℕ} {t : Entry} {ts : List Entry} → PollsLeft c j n → g ≡ confirmation → left ≡ t ∷ ts
       → After c k j fcb r left g (go (requestBytes c (job.Poll n) (not fcb) t) (controller.Asking k (job.Poll n) (not fcb) (c .repeats)))
   written : {n : ℕ} {t u : Entry} {ts : List Entry} → j ≡ job.Poll n → g ≡ positive 1 (t .slot) (length (t .body)) → left ≡ t ∷ u ∷ ts
       → After c k j fcb r left g (go (requestBytes c job.Write (not fcb) u) (controller.Asking (suc k) job.Write (not fcb) (c .repeats)))
@@ -126,9 +131,9 @@ module _ (c : Settings) (k : ℕ) (fcb : Bool) (r : ℕ) where
       by (suc n) [] e l = ended (past l)
       by (suc n) (t ∷ ts) e l = repeated refl e l
 
-  by-confirmation : (j : Job) (n : ℕ) (left : List Entry) → After c k j fcb r left confirmation (askFor c k (job.Poll n) (not fcb) (c .repeats) left)
-  by-confirmation j n [] = ended (past refl)
-  by-confirmation j n (t ∷ ts) = polled refl refl
+  by-confirmation : (j : Job) (n : ℕ) (left : List Entry) → PollsLeft c j n → After c k j fcb r left confirmation (askFor c k (job.Poll n) (not fcb) (c .repeats) left)
+  by-confirmation j n [] p = ended (past refl)
+  by-confirmation j n (t ∷ ts) p = polled p refl refl
 
   by-positive : (n slot index len : ℕ) (left : List Entry) → After c k (job.Poll n) fcb r left (positive slot index len) (settled c k fcb slot index len left)
   by-positive n slot index len [] = ended (past refl)
@@ -148,21 +153,21 @@ module _ (c : Settings) (k : ℕ) (fcb : Bool) (r : ℕ) where
 
   by-job : (j : Job) (left : List Entry) (g : Got) → After c k j fcb r left g (afterJob c k j fcb r left g)
   by-job job.Write left nothing = by-none job.Write left
-  by-job job.Write left confirmation = by-confirmation job.Write (c .polls - 1) left
+  by-job job.Write left confirmation = by-confirmation job.Write (c .polls - 1) left all
   by-job job.Write left diagnosis = ended strange
   by-job job.Write left (positive slot index len) = ended strange
   by-job job.Write left (negative code1 code2) = ended strange
   by-job job.Write left other = ended strange
   by-job (job.Poll n) left nothing = by-none (job.Poll n) left
   by-job (job.Poll zero) left confirmation = ended late
-  by-job (job.Poll (suc n)) left confirmation = by-confirmation (job.Poll (suc n)) n left
+  by-job (job.Poll (suc n)) left confirmation = by-confirmation (job.Poll (suc n)) n left fewer
   by-job (job.Poll n) left diagnosis = ended strange
   by-job (job.Poll n) left (positive slot index len) = by-positive n slot index len left
   by-job (job.Poll n) left (negative code1 code2) = ended (refused refl refl)
   by-job (job.Poll n) left other = ended strange
 
 -- the controller's move from a job
-after : (c : Settings) (book : List Entry) (k : ℕ) (j : Job) (fcb : Bool) (r : ℕ) (s : List ℕ)
+pub after : (c : Settings) (book : List Entry) (k : ℕ) (j : Job) (fcb : Bool) (r : ℕ) (s : List ℕ)
     → After c k j fcb r (drop (k - 1) book) (gotIn c s) (moveOf c book (controller.Asking k j fcb r) s)
 unfolding moveOf
 after c book k j fcb r s = by-job c k fcb r j (drop (k - 1) book) (gotIn c s)
@@ -207,7 +212,7 @@ pub data Follows (c : Settings) (k : ℕ) (j : Job) (fcb : Bool) (r : ℕ) (g : 
 module _ (c : Settings) (k : ℕ) (j : Job) (fcb : Bool) (r : ℕ) where
   follows : {left : List Entry} {g : Got} {m : Move} → After c k j fcb r left g m → Follows c k j fcb r g m
   follows (repeated a b l) = same a b
-  follows (polled a l) = new (ap isNothing a)
+  follows (polled p a l) = new (ap isNothing a)
   follows (written p a l) = new (ap isNothing a)
   follows (ended e) = ends
 
@@ -242,7 +247,7 @@ module _ (c : Settings) (book : List Entry) where
 
   by-after : {i : ℕ} {j : Job} {fcb : Bool} {r : ℕ} {left : List Entry} {g : Got} {m : Move} → drop i book ≡ left → After c (suc i) j fcb r left g m → Sends c book m
   by-after {i} {j} {fcb} d (repeated {n} {t} a b l) = asks i j fcb n t (d ∙ l)
-  by-after {i} {j} {fcb} d (polled {n} {t} a l) = asks i (job.Poll n) (not fcb) (c .repeats) t (d ∙ l)
+  by-after {i} {j} {fcb} d (polled {n} {t} p a l) = asks i (job.Poll n) (not fcb) (c .repeats) t (d ∙ l)
   by-after {i} {j} {fcb} d (written {u = u} p a l) =
       let next : suc i ≡ i + 1 = omega arith in
       asks (suc i) job.Write (not fcb) (c .repeats) u (ap (λ (n : ℕ). drop n book) next ∙ sym (drop-drop 1 i book) ∙ ap (drop 1) (d ∙ l))
@@ -331,7 +336,7 @@ module _ (c : Settings) (k : ℕ) (j : Job) (fcb : Bool) (r : ℕ) {left : List 
 
   takes : {m : Move} → After c k j fcb r left g m → (t : Entry) {ts : List Entry} → left ≡ t ∷ ts → goesOn m ≡ true → Takes t j g
   takes (repeated a b l) t e f = none a
-  takes (polled a l) t e f = confirmed a
+  takes (polled p a l) t e f = confirmed a
   takes (written {t = t′} p a l) t e f = own-result t t′ e l p a
   takes (ended (done {t = t′} p a l)) t e f = own-result t t′ e l p a
   takes (ended (past l)) t e f = absurd (let z : _≡_ {A = ℕ} 0 1 = cc in omega arith)
@@ -342,7 +347,7 @@ module _ (c : Settings) (k : ℕ) (j : Job) (fcb : Bool) (r : ℕ) {left : List 
 
   refusal : {m : Move} → After c k j fcb r left g m → Refusal k j g m
   refusal (repeated a b l) = tt
-  refusal (polled a l) = tt
+  refusal (polled p a l) = tt
   refusal (written p a l) = tt
   refusal (ended (done p a l)) = tt
   refusal (ended (past l)) = tt

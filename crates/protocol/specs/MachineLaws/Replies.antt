@@ -7,14 +7,13 @@ use native.Mathlib.Omega.{arith}
 use lib.Dec.{eqb, leb, ltb}
 use lib.ListN.{length, take}
 use borrow.Author.Tests.{le-leb, le-ltb, ltb-false}
-use Rattle.octets.specs.Bytes.{Bytes}
 use Rattle.octets.specs.Choice.{by-pick}
 use Rattle.octets.specs.Front.{fine, over}
 use Rattle.octets.specs.declared.Mode.the-variants as mode
 use Rattle.function_code.specs.Code.{classOf}
-use Rattle.fdl.specs.Contents.{accepted, contentsIn, verdictFor}
 use Rattle.fdl.specs.Laws as telegram-laws
-use Rattle.fdl.specs.Lemmas.Fields as fields
+use Rattle.fdl.specs.Lemmas.Reads as case
+use Rattle.fdl.specs.Lemmas.Reads.{Reads, reads, headerIn}
 use Rattle.fdl.specs.Reading as telegram
 use Rattle.fdl.specs.Reading.{readBy}
 use Rattle.fdl.specs.Writing.{goodHeader, verdictBy}
@@ -82,18 +81,18 @@ Fits (printer.bare function) = classOf function ≡ class.Bare
 Fits diagnosis = Unit {0}
 Fits (result o) = Left o
 
-module _ (diag : List ℕ) (to from : ℕ) (t : to ≤ 126) (f : from ≤ 126) (v : Valid diag) where
-  bare-fine : (function : ℕ) → classOf function ≡ class.Bare → telegram-writing.verdictOf Sd1 (headerWith to from function Absent Absent) [] ≡ fine
-  unfolding goodHeader verdictBy
-  bare-fine function e =
-      let da : leb to 127 ≡ true = le-leb to 127 (omega arith) in
-      simp (da, le-leb from 126 f, e)
+pub bare-fine : (to from : ℕ) → to ≤ 126 → from ≤ 126 → (function : ℕ) → classOf function ≡ class.Bare → telegram-writing.verdictOf Sd1 (headerWith to from function Absent Absent) [] ≡ fine
+unfolding goodHeader verdictBy
+bare-fine to from t f function e =
+    let da : leb to 127 ≡ true = le-leb to 127 (omega arith) in
+    simp (da, le-leb from 126 f, e)
 
+module _ (diag : List ℕ) (to from : ℕ) (t : to ≤ 126) (f : from ≤ 126) (v : Valid diag) where
   proper-reply : (r : Reply) → Fits r → Proper (replyBytes diag from to r)
   unfolding readBy
   proper-reply confirmation e = confirms refl
   proper-reply (printer.bare function) e =
-      bare (telegram-laws.telegram-reads-back classOf Sd1 (headerWith to from function Absent Absent) [] (bare-fine function e)) e
+      bare (telegram-laws.telegram-reads-back classOf Sd1 (headerWith to from function Absent Absent) [] (bare-fine to from t f function e)) e
   proper-reply diagnosis e = carries (diagnosis-read to from t f diag v)
   proper-reply (result o) e =
       let c : Content = content.Dpv1Answer (answerOf o) in
@@ -101,7 +100,7 @@ module _ (diag : List ℕ) (to from : ℕ) (t : to ≤ 126) (f : from ≤ 126) (
 
 -- ---- what is received comes from a station 0..126
 
-abbrev Comes : Received → Type 0
+abbrev pub Comes : Received → Type 0
 Comes nothing = Unit {0}
 Comes elsewhere = Unit {0}
 Comes (status sa) = sa ≤ 126
@@ -118,17 +117,18 @@ module _ (address : ℕ) (s : List ℕ) where
   by-class class.Data h e = tt
   by-class class.Reserved h e = tt
 
-  by-reading : (r : telegram-type.Reading) → (accepted r ≡ true → verdictFor classOf (contentsIn s r) ≡ fine) → Comes (receivedBy address s r)
-  by-reading telegram-reading.Confirmation e = tt
-  by-reading (telegram-reading.Token da sa) e = tt
-  by-reading (telegram-reading.Telegram f h start len) e =
+  by-reading : {r : telegram-type.Reading} → Reads classOf s r → Comes (receivedBy address s r)
+  by-reading (case.confirmation e) = tt
+  by-reading (case.token e x y) = tt
+  by-reading (case.telegram {f} {at} {pdu} {dsap} {ssap} starts frames) =
+      let h : Header = headerIn s at dsap ssap in
       by-pick Comes (isCall (classOf (h .fc))) (λ _.
-      by-pick Comes (eqb (h .da) address) (λ _. by-class (classOf (h .fc)) h (fields.writable classOf f h _ (e refl) .header .sa)) (λ _. tt)) (λ _. tt)
-  by-reading (telegram-reading.Refused r) e = tt
+      by-pick Comes (eqb (h .da) address) (λ _. by-class (classOf (h .fc)) h (omega (arith, frames .source))) (λ _. tt)) (λ _. tt)
+  by-reading case.refusal = tt
 
-  comes : Bytes s → Comes (receivedOf address s)
+  pub comes : Comes (receivedOf address s)
   unfolding receivedOf
-  comes b = by-reading (telegram.readOf s) (λ a. telegram-laws.writes-back classOf s b a .taken)
+  comes = by-reading (reads classOf s)
 
 -- ---- the step
 
@@ -189,7 +189,7 @@ module _ (diag : List ℕ) (n : ℕ) (x : Station) (a : x .printer .address ≤ 
 
 -- From a state whose pending result a write could have left, which every step keeps, every data reply is a telegram that
 -- `service` reads as an answer, and every other a bare SD1 or SC.
-pub replies-proper : (diag : List ℕ) (notYet : ℕ) (s : List ℕ) (x : Station) → Bytes s → x .printer .address ≤ 126 → Valid diag → Sound x
+pub replies-proper : (diag : List ℕ) (notYet : ℕ) (s : List ℕ) (x : Station) → x .printer .address ≤ 126 → Valid diag → Sound x
     → Sound (hear diag notYet s x .station) × Proper (take (hear diag notYet s x .reply) (hear diag notYet s x .station .buffer))
 unfolding hear
-replies-proper diag notYet s x b a v z = by-received diag notYet x a v z (receivedOf (x .printer .address) s) (comes (x .printer .address) s b)
+replies-proper diag notYet s x a v z = by-received diag notYet x a v z (receivedOf (x .printer .address) s) (comes (x .printer .address) s)

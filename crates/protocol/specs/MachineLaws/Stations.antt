@@ -1,0 +1,76 @@
+-- A printer that may be used may be used after whatever it hears.
+use Prim.Native.Nat.{ℕ, zero, suc, _≤_}
+use mathlib.Core.Path.{_≡_, refl, sym}
+use mathlib.Core.Bool.{Bool, true, false}
+use mathlib.Core.List.{List, [], _∷_}
+use native.Mathlib.Omega.{arith}
+use lib.Dec.{ltb}
+use lib.ListN.{length, drop, set, length-append, length-drop}
+use borrow.Author.Tests.{le-ltb, ltb-false}
+use Rattle.octets.specs.Choice.{_or_, by-pick, never}
+use Rattle.octets.specs.Front.{fine, over}
+use Rattle.protocol.specs.Slots.{Slots, tooLong, Sized}
+use Rattle.protocol.specs.Printer.{Received, nothing, elsewhere, status, uncounted, opening, counted, receivedOf, Reply, bare, perform, openingReply, Station, Heard, isRepeat, replyBytes, heardBy, hear, verdictOf}
+use Rattle.protocol.specs.Lemmas.Accepted.{Usable, usable}
+use Rattle.protocol.specs.Lemmas.Replies.{Valid, valid}
+use Rattle.protocol.specs.Lemmas.Slots.{written-sized}
+use Rattle.protocol.specs.MachineLaws.Printer.{Changes, kept, stored, slots-change}
+use Rattle.protocol.specs.MachineLaws.Room.{reply-fits}
+
+may-be-used : (diag : List ℕ) (x : Station) → Usable diag x → verdictOf diag x ≡ fine
+unfolding verdictOf
+may-be-used diag x u = rw (u .address, u .lengths, u .diagnosis, u .room)
+
+-- the slots' lengths
+neither : (a b : Bool) → (a or b) ≡ false → (a ≡ false) × (b ≡ false)
+neither true b e = absurd (never (sym e))
+neither false b e = (refl, e)
+
+short-lengths : (l : List ℕ) (i n : ℕ) → n ≤ 200 → tooLong l ≡ false → tooLong (set l i n) ≡ false
+short-lengths [] i n h e = e
+short-lengths (a ∷ l) zero n h e = rw (le-ltb 200 n h) (neither (ltb 200 a) (tooLong l) e .1)
+short-lengths (a ∷ l) (suc i) n h e =
+    let both = neither (ltb 200 a) (tooLong l) e in rw (both .0) (short-lengths l i n h (both .1))
+
+lengths-kept : {boarding : Bool} {s s′ : Slots} → Changes boarding s s′ → tooLong (s .lengths) ≡ false → tooLong (s′ .lengths) ≡ false
+lengths-kept kept e = e
+lengths-kept {s = s} (stored index body i l f) e = short-lengths (s .lengths) index (length body) l e
+
+-- its address, and the length of the buffer
+record Same (x y : Station) : Type 0 where
+  address : y .printer .address ≡ x .printer .address
+  long : length (y .buffer) ≡ length (x .buffer)
+
+module _ (diag : List ℕ) (n : ℕ) (x : Station) (v : Valid diag) (room : 255 ≤ length (x .buffer)) where
+  over-long : (sa : ℕ) (r : Reply) → length (over (replyBytes diag (x .printer .address) sa r) (x .buffer)) ≡ length (x .buffer)
+  over-long sa r =
+      let q : List ℕ = replyBytes diag (x .printer .address) sa r in
+      omega (arith, reply-fits diag (x .printer .address) sa r v, length-append q (drop (length q) (x .buffer)), length-drop (length q) (x .buffer))
+
+  same-heard : (r : Received) → Same x (heardBy diag n r x .station)
+  same-heard nothing = record { address = refl; long = refl }
+  same-heard elsewhere = record { address = refl; long = refl }
+  same-heard uncounted = record { address = refl; long = refl }
+  same-heard (status sa) = record { address = refl; long = over-long sa (bare 0) }
+  same-heard (opening sa ask) = record { address = refl; long = over-long sa (openingReply ask) }
+  same-heard (counted fcb sa ask) =
+      by-pick (λ (h : Heard). Same x (h .station)) (isRepeat (x .printer) fcb sa) (λ _. record { address = refl; long = refl }) (λ _.
+      record { address = refl; long = over-long sa (perform (x .printer .boarding) n (x .printer .pending) (x .slots) (x .printer .writes) ask .reply) })
+
+-- A printer that may be used may be used after whatever it hears,
+pub station-kept : (diag : List ℕ) (n : ℕ) (s : List ℕ) (x : Station) → verdictOf diag x ≡ fine → verdictOf diag (hear diag n s x .station) ≡ fine
+unfolding hear
+station-kept diag n s x e =
+    let u = usable diag x e in
+    let y : Station = hear diag n s x .station in
+    let same = same-heard diag n x (valid diag (u .diagnosis)) (ltb-false (length (x .buffer)) 255 (u .room)) (receivedOf (x .printer .address) s) in
+    let lengths = lengths-kept (slots-change diag n s x) (u .lengths) in
+    may-be-used diag y (record { address = rw (same .address) (u .address); lengths = lengths; diagnosis = u .diagnosis; room = rw (same .long) (u .room) })
+
+-- and has its sixteen slots.
+pub slots-sized : (diag : List ℕ) (n : ℕ) (s : List ℕ) (x : Station) → Sized (x .slots) → Sized (hear diag n s x .station .slots)
+slots-sized diag n s x z = by (slots-change diag n s x)
+  where
+    by : {s′ : Slots} → Changes (x .printer .boarding) (x .slots) s′ → Sized s′
+    by kept = z
+    by (stored index body i l f) = written-sized (x .slots) z index body i l
