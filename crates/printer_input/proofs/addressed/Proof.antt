@@ -1,0 +1,39 @@
+-- `printer_input::addressed` meets its contract: the class is a call's, then the address.
+use mathlib.Core.Path.{_≡_, sym, ap, _∙_}
+use borrow.Author.Tests.{not-true, not-false, eq-eqb, ne-eqb}
+use Rattle.function_code.specs.Code.{classOf}
+use Rattle.protocol.specs.Printer.{isCall}
+use borrow.Author.Needs.{needs}
+use Rattle.printer_input.proofs.addressed.Statement.{statement}
+use Rattle.printer_input.proofs.addressed.Tie as tie
+
+-- the test is the definition's
+told : (c : tie.After-is-call) → isCall (classOf (c .before .before .before .args .header .fc)) ≡ c .is-call .result
+told c = ap isCall (sym (c .before .class-of .ensures)) ∙ sym (c .is-call .ensures)
+
+class-of-requires : tie.Need-class-of-requires
+class-of-requires c κs = search needs
+
+is-call-requires : tie.Need-is-call-requires
+is-call-requires c κs = search needs
+
+returns : tie.Need-returns
+returns c f start len = simp (told (c .before) ∙ not-true _ (c .if1 .taken))
+
+returns-2 : tie.Need-returns-2
+returns-2 c f start len =
+    let k = c .before .before in
+    simp (told (k .before) ∙ not-false _ (k .if1 .left), ne-eqb _ _ (c .if2 .taken))
+
+called-requires : tie.Need-called-requires
+called-requires c κs = search needs
+
+returns-3 : tie.Need-returns-3
+returns-3 c f start len =
+    let k = c .before .before .before in
+    simp (told (k .before) ∙ not-false _ (k .if1 .left), eq-eqb _ _ (c .before .if2 .left), ← k .before .before .class-of .ensures) (c .called .ensures)
+
+pub addressed-spec : {M : Type 1} → statement M
+addressed-spec =
+    tie.close
+    (tie.spec class-of-requires is-call-requires returns returns-2 called-requires returns-3)

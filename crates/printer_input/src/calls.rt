@@ -1,0 +1,66 @@
+// A call to this printer, by the class of its function code.
+ghost use mathlib.Core.Path.{_≡_};
+ghost use mathlib.Core.List.{List};
+ghost use Prim.Native.Nat.{ℕ};
+ghost use Rattle.fdl.specs.Reading.{readOf};
+ghost use Rattle.function_code.specs.declared.code.Class.the-variants.{Uncounted};
+ghost use Rattle.protocol.specs.Printer.{isCall, fcbOf, calledBy};
+ghost use Rattle.printer_input.specs.Meaning.{receivedIn};
+use crate::Received;
+use crate::asking::asked_in;
+use fdl::Header;
+use fdl::Reading;
+use function_code::Class;
+
+// Whether a function code of this class makes a call.
+pub(crate) fn is_call(class: Class) -> bool
+    ensures { λ r. ⌜ r ≡ isCall class ⌝ }
+{
+    match class {
+        Class::Opening => true,
+        Class::Counted => true,
+        Class::Uncounted => true,
+        Class::Bare => false,
+        Class::Data => false,
+        Class::Reserved => false,
+    }
+}
+
+// FCB is bit 5.
+fn fcb_of(fc: u8) -> bool
+    ensures { λ r. ⌜ r ≡ fcbOf fc ⌝ }
+{
+    fc / 32 % 2 == 1
+}
+
+// FDL status is function 9.
+fn uncounted(header: Header) -> Received
+    ensures { λ r. ⌜ ((s : List ℕ) → receivedIn s r ≡ calledBy Uncounted s header) ⌝ }
+{
+    if header.fc % 16 == 9 {
+        return Received::Status { sa: header.sa };
+    }
+    Received::Uncounted
+}
+
+// What a call of this class is.
+pub(crate) fn called(class: Class, telegram: &[u8], reading: Reading, header: Header) -> Received
+    requires { ⌜ reading ≡ readOf (now telegram) ⌝ }
+    ensures { λ r. ⌜ receivedIn (now (telegram .entry)) r ≡ calledBy class (now (telegram .entry)) header ⌝ }
+{
+    match class {
+        Class::Opening => Received::Opening {
+            sa: header.sa,
+            ask: asked_in(telegram, reading, header.fc),
+        },
+        Class::Counted => Received::Counted {
+            fcb: fcb_of(header.fc),
+            sa: header.sa,
+            ask: asked_in(telegram, reading, header.fc),
+        },
+        Class::Uncounted => uncounted(header),
+        Class::Bare => Received::Nothing,
+        Class::Data => Received::Nothing,
+        Class::Reserved => Received::Nothing,
+    }
+}

@@ -1,0 +1,80 @@
+// What a telegram is to the printer (document 01, "Printer rules"): one case for each rule, and what a call
+// asks for. The telegram is read once, also where it carries a service.
+ghost use mathlib.Core.Path.{_≡_};
+ghost use Prim.Native.Nat.{ℕ};
+ghost use Rattle.fdl.specs.Reading.{readOf};
+ghost use Rattle.fdl.specs.declared.telegram.Format.{Format};
+ghost use Rattle.fdl.specs.declared.reading.Reading.the-variants.{Telegram};
+ghost use Rattle.protocol.specs.Printer.{receivedBy, receivedOf};
+ghost use Rattle.printer_input.specs.Meaning.{receivedIn};
+
+mod asking;
+mod calls;
+
+use calls::called;
+use calls::is_call;
+use fdl::Header;
+use fdl::Reading;
+
+// What an opening or a counted call asks for. The body of a write is the len bytes of the telegram from
+// start, which `octets::part` hands back.
+pub enum Ask {
+    SlaveDiag,
+    Write {
+        slot: u8,
+        index: u8,
+        start: usize,
+        len: usize,
+    },
+    Poll,
+    // Not by SRD, refused with 10, or any other service or DPV1 function.
+    Unknown,
+    // Other data that cannot be read.
+    Undecodable,
+}
+
+// What a telegram is to the printer; `sa` is the station that sent it.
+pub enum Received {
+    // Refused bytes, a token, a short confirmation, an answer.
+    Nothing,
+    // A call to another station.
+    Elsewhere,
+    // A call for the FDL status.
+    Status { sa: u8 },
+    Uncounted,
+    Opening { sa: u8, ask: Ask },
+    Counted { fcb: bool, sa: u8, ask: Ask },
+}
+
+// What a telegram with this header is: an answer is nothing to the printer, whoever it is for.
+fn addressed(address: u8, telegram: &[u8], reading: Reading, header: Header) -> Received
+    requires { ⌜ reading ≡ readOf (now telegram) ⌝ }
+    ensures { λ r. ⌜ ((f : Format) (start len : ℕ) → receivedIn (now (telegram .entry)) r ≡ receivedBy address (now (telegram .entry)) (Telegram f header start len)) ⌝ }
+{
+    let class = function_code::class_of(header.fc);
+    if !is_call(class) {
+        return Received::Nothing;
+    }
+    if header.da != address {
+        return Received::Elsewhere;
+    }
+    called(class, telegram, reading, header)
+}
+
+// What a telegram is to the printer with this address.
+pub fn receive(address: u8, telegram: &[u8]) -> Received
+    ensures { λ r. ⌜ receivedIn (now (telegram .entry)) r ≡ receivedOf address (now (telegram .entry)) ⌝ }
+{
+    let reading = fdl::read(telegram);
+    match reading {
+        Reading::Confirmation => Received::Nothing,
+        Reading::Token { da: _, sa: _ } => Received::Nothing,
+        Reading::Telegram {
+            format: _,
+            header,
+            start: _,
+            len: _,
+        } => addressed(address, telegram, reading, header),
+        Reading::Refused(_) => Received::Nothing,
+    }
+}
