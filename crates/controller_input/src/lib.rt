@@ -1,0 +1,74 @@
+// What a reply is to the controller (document 01, "The controller's step"). The reply is read once, also where
+// it carries a service.
+ghost use mathlib.Core.Path.{_≡_};
+ghost use Prim.Native.Nat.{ℕ};
+ghost use Rattle.fdl.specs.Reading.{readOf};
+ghost use Rattle.fdl.specs.declared.reading.Reading.the-variants.{Telegram};
+ghost use Rattle.protocol.specs.Controller.{gotFrom, gotIn};
+ghost use Rattle.controller_input.specs.Meaning.{gotBy, exchanged};
+
+mod origin;
+mod replies;
+
+use fdl::Format;
+use fdl::Header;
+use fdl::Reading;
+use octets::Mode;
+use origin::is_printers;
+use protocol::Settings;
+use replies::reply_by;
+
+// A reply that framing accepts.
+pub enum Reply {
+    // SC.
+    Confirmation,
+    // The printer's diagnosis.
+    Diagnosis,
+    // The printer's 5F.
+    Positive { slot: u8, index: u8, length: u8 },
+    // The printer's DF.
+    Negative { code1: u8, code2: u8 },
+    // Any other.
+    Other,
+}
+
+// What came of a sending: a reply, or no bytes, or bytes that framing refuses.
+pub enum Exchange {
+    Answered(Reply),
+    Nothing,
+}
+
+// What a telegram with this header says: only the printer's own is more than another reply.
+fn heard(
+    settings: Settings,
+    reply: &[u8],
+    reading: Reading,
+    format: Format,
+    header: Header,
+) -> Reply
+    requires { ⌜ reading ≡ readOf (now reply) ⌝ }
+    ensures { λ r. ⌜ ((start len : ℕ) → gotBy r ≡ gotFrom settings (now (reply .entry)) (Telegram format header start len)) ⌝ }
+{
+    if !is_printers(settings, format, header) {
+        return Reply::Other;
+    }
+    reply_by(service::carried(reply, reading, Mode::Dpv1))
+}
+
+// What the bytes that came back are to a controller with these settings.
+pub fn take(settings: Settings, reply: &[u8]) -> Exchange
+    ensures { λ r. ⌜ exchanged r ≡ gotIn settings (now (reply .entry)) ⌝ }
+{
+    let reading = fdl::read(reply);
+    match reading {
+        Reading::Confirmation => Exchange::Answered(Reply::Confirmation),
+        Reading::Token { da: _, sa: _ } => Exchange::Answered(Reply::Other),
+        Reading::Telegram {
+            format,
+            header,
+            start: _,
+            len: _,
+        } => Exchange::Answered(heard(settings, reply, reading, format, header)),
+        Reading::Refused(_) => Exchange::Nothing,
+    }
+}
