@@ -1,0 +1,5 @@
+pub mod Bits
+pub mod PrinterState
+pub mod ControllerState
+pub mod Endings
+pub mod Laws
