@@ -7,13 +7,13 @@ use std::path::Path;
 
 /// Names the folder of the archive, when it is not the gate's.
 const FOLDER_VARIABLE: &str = "RABTUNEX_ARCHIVE";
-const GATE_FOLDER: &str = "../target/staticlib";
+const GATE_FOLDER: &str = "../target";
 
 fn main() {
     let folder = env::var_os(FOLDER_VARIABLE).unwrap_or_else(|| OsString::from(GATE_FOLDER));
     let archive = Path::new(env!("CARGO_MANIFEST_DIR"))
         .join(folder)
-        .join("libcapi.a");
+        .join("librabtunex.a");
     let archive = archive.display();
     println!("cargo:rerun-if-env-changed={FOLDER_VARIABLE}");
     println!("cargo:rerun-if-changed={archive}");

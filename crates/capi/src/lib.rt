@@ -1,9 +1,5 @@
-// The C interface (include/rabtunex.h): numbers and lent bytes only.
-mod acyclic_fields;
-mod book_fields;
-mod configuration_offsets;
-mod diagnosis_fields;
-mod outcome;
+// The C interface of telegrams and of the services that they carry (include/rabtunex.h): numbers and lent
+// bytes only.
 mod service_reading;
 mod service_writing;
 mod telegram;

@@ -3,15 +3,15 @@ ghost use mathlib.Core.Path.{_≡_};
 ghost use lib.ListN.{length};
 ghost use Rattle.octets.specs.Front.{answerBy, heldBy};
 ghost use Rattle.access.specs.Route.{headerOf};
-ghost use Rattle.capi.specs.Outcome.{statusOf, countAfter};
+ghost use Rattle.fields.specs.Outcome.{statusOf, countAfter};
 ghost use Rattle.capi.specs.Service.{reservedNumber, namedVerdict, namedBytes, answerOf, heldOf};
-use crate::outcome::store_count;
 use crate::telegram::Kind;
 use crate::telegram::kind_of;
 use access::Route;
 use access::Service;
 use fdl::Format;
 use fields::Named;
+use fields::store_count;
 use octets::Written;
 
 // The refusal of a DPV1 number that the way does not have: what the telegram's fields say comes first.

@@ -4,13 +4,13 @@ ghost use mathlib.Core.List.{_∷_, []};
 ghost use lib.ListN.{length};
 ghost use Rattle.octets.specs.Front.{answerBy, heldBy};
 ghost use Rattle.fdl.specs.Reading.{readOf};
-ghost use Rattle.capi.specs.Outcome.{statusOf, countAfter};
+ghost use Rattle.fields.specs.Outcome.{statusOf, countAfter};
 ghost use Rattle.capi.specs.Telegram.{formatNumber, sapNumber, sapOf, refusalOf, fieldsAfter, headerOf, kindOf, verdictAt, bytesAt, answerOf, heldOf};
-use crate::outcome::store_count;
 use fdl::Format;
 use fdl::Header;
 use fdl::Reading;
 use fdl::Sap;
+use fields::store_count;
 use octets::Written;
 
 pub(crate) fn format_number(format: Format) -> u8

@@ -1,2 +1,3 @@
 pub mod Dpv1
 pub mod Service
+pub mod Outcome

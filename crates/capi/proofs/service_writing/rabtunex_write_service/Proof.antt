@@ -5,7 +5,7 @@ use Prim.Native.Nat.{ℕ}
 use lib.ListN.{length}
 use borrow.Author.Tests.{lt-ltb, le-ltb}
 use Rattle.octets.specs.Front.{Verdict, fault, answerBy, heldBy, refused}
-use Rattle.capi.specs.Outcome.{statusOf, countAfter}
+use Rattle.fields.specs.Outcome.{statusOf, countAfter}
 use Rattle.capi.specs.Service.{kindVerdict, kindBytes, verdictIn, bytesIn}
 use Rattle.fields.specs.Service.{contentIn}
 use Rattle.capi.specs.declared.telegram.Kind.{Kind}
