@@ -98,18 +98,31 @@ undamaged [] = tt
 undamaged (b ∷ line) =
     (by-pick (DamagedBy FramingRefuses) (eqb b 1) (λ _. tt) (λ _. by-pick (DamagedBy FramingRefuses) (eqb b 2) (λ _. tt) (λ _. tt)), undamaged line)
 
-pub not-refused : (c : Settings) (book line notYet diagnosis : List ℕ) (x : Station) (request : List ℕ)
-    → verdictOf c book line diagnosis x request ≡ fine → NotRefused (given c book notYet diagnosis) (passagesOf line) x
+-- a download that is not refused, part by part
+pub record Taken (c : Settings) (book line diagnosis : List ℕ) (x : Station) (request : List ℕ) : Type 0 where
+  pub settings : settingsVerdict c ≡ fine
+  pub templates : bookVerdict (book-format.readOf book) ≡ fine
+  pub entries : lineVerdict line ≡ fine
+  pub station : printer-step.verdictOf diagnosis x ≡ fine
+  pub room : roomVerdict request ≡ fine
+
+pub taken : (c : Settings) (book line diagnosis : List ℕ) (x : Station) (request : List ℕ) → verdictOf c book line diagnosis x request ≡ fine
+    → Taken c book line diagnosis x request
 unfolding verdictOf
-not-refused c book line notYet diagnosis x request e =
+taken c book line diagnosis x request e =
     let printers : Verdict = judged fault (printer-step.verdictOf diagnosis x) (roomVerdict request) in
     let lines : Verdict = judged fault (lineVerdict line) printers in
     let a = both-fine (settingsVerdict c) (judged fault (bookVerdict (book-format.readOf book)) lines) e in
     let b = both-fine (bookVerdict (book-format.readOf book)) lines (a .1) in
     let d = both-fine (lineVerdict line) printers (b .1) in
     let p = both-fine (printer-step.verdictOf diagnosis x) (roomVerdict request) (d .1) in
-    let s = settled c (a .0) in
-    let o = ordered book (b .0) in
+    record { settings = a .0; templates = b .0; entries = d .0; station = p .0; room = p .1 }
+
+pub taken-so : {c : Settings} {book line diagnosis : List ℕ} {x : Station} {request : List ℕ} (notYet : List ℕ) → Taken c book line diagnosis x request
+    → NotRefused (given c book notYet diagnosis) (passagesOf line) x
+taken-so {c} {book} {line} notYet t =
+    let s = settled c (t .settings) in
+    let o = ordered book (t .templates) in
     record {
       printer = s .printer;
       controller = s .controller;
@@ -120,6 +133,10 @@ not-refused c book line notYet diagnosis x request e =
       in-order = o .in-order;
       some-templates = o .some;
       templates = o .most;
-      station = p .0;
+      station = t .station;
       damage = undamaged line;
     }
+
+pub not-refused : (c : Settings) (book line notYet diagnosis : List ℕ) (x : Station) (request : List ℕ) → verdictOf c book line diagnosis x request ≡ fine
+    → NotRefused (given c book notYet diagnosis) (passagesOf line) x
+not-refused c book line notYet diagnosis x request e = taken-so notYet (taken c book line diagnosis x request e)

@@ -4,8 +4,9 @@ use mathlib.Core.Path.{_≡_, sym, _∙_, subst}
 use mathlib.Core.Bool.{Bool, true}
 use mathlib.Core.List.{List, [], _∷_}
 use native.Mathlib.Omega.{arith}
-use lib.ListN.{length, drop}
+use lib.ListN.{length, drop, length-append, length-drop}
 use lib.Seq.{drop-nil}
+use Rattle.octets.specs.Front.{over}
 use Rattle.fdl.specs.Lemmas.Fields.{sap-small, telegram-length}
 use Rattle.fdl.specs.Writing.{telegramOf}
 use Rattle.fdl.specs.declared.telegram.Format.the-variants.{Sd1, Sd2}
@@ -32,6 +33,10 @@ use Rattle.protocol.specs.declared.controller.Controller.{Controller}
 use Rattle.protocol.specs.declared.controller.Job.{Job}
 use Rattle.protocol.specs.declared.controller.Job.the-variants as job
 use Rattle.protocol.specs.declared.controller.Settings.{Settings}
+
+-- What fits in a buffer leaves it as long as it was.
+pub over-long : (q l : List ℕ) → length q ≤ length l → length (over q l) ≡ length l
+over-long q l h = simp (length-append, length-drop) (omega arith)
 
 -- in SD2 with at most 244 bytes of user data
 framed-fits : (h : Header) (user : List ℕ) → length user ≤ 244 → length (telegramOf Sd2 h user) ≤ 255

@@ -1,5 +1,5 @@
 -- A controller's step leads only to states that its next step does not refuse.
-use Prim.Native.Nat.{ℕ, suc, _-_, _%_, _≤_, _<_}
+use Prim.Native.Nat.{ℕ, zero, suc, _-_, _%_, _≤_, _<_}
 use mathlib.Core.Path.{_≡_, refl, sym, ap, _∙_, subst}
 use mathlib.Core.Bool.{Bool, true, false, not}
 use mathlib.Core.List.{List}
@@ -8,14 +8,14 @@ use lib.Dec.{eqb, ltb}
 use lib.ListN.{length, drop, length-drop}
 use borrow.Author.Tests.{le-ltb, ltb-false, lt-ltb, eqb-true, eqb-false, ne-eqb, eq-eqb, ltb-true, not-false}
 use Rattle.octets.specs.Choice.{pick, _and_, _or_}
-use Rattle.octets.specs.Fixed.{passed}
+use Rattle.octets.specs.Fixed.{passed, fault-fine}
 use Rattle.octets.specs.Front.{Verdict, fine, fault}
 use Rattle.book.specs.Contents.{Entry}
 use Rattle.protocol.specs.Bits.{sameBit}
 use Rattle.protocol.specs.Line.{go, stop}
 use Rattle.protocol.specs.Lemmas.Accepted.{settled}
 use Rattle.protocol.specs.Controller.{Got, Move, moveOf, settingsVerdict, requestsBefore, wrongFcb, tooManyPolls, stateVerdict}
-use Rattle.protocol.specs.MachineLaws.Controller.{PollsLeft, all, fewer, After, repeated, polled, written, ended, after, Begins, first, ends, first-fcb}
+use Rattle.protocol.specs.MachineLaws.Controller.{PollsLeft, all, fewer, After, repeated, polled, written, ended, after, Begins, first, ends, first-fcb, fromOne}
 use Rattle.protocol.specs.declared.controller.Settings.{Settings}
 use Rattle.protocol.specs.declared.controller.Job.{Job}
 use Rattle.protocol.specs.declared.controller.Job.the-variants as job
@@ -131,6 +131,14 @@ module _ (c : Settings) (book : List Entry) (p : 1 ≤ c .polls) where
       may-stand c (length book) 1 job.Write false (c .repeats)
       (record { from-one = omega arith; within = omega (arith, ap length e); polls = refl; repeats = omega arith; right-fcb = refl })
   from-opening ends = tt
+
+-- A state that is not refused counts templates from 1.
+pub state-counts : (c : Settings) (n : ℕ) (o : Controller) → stateVerdict c n o ≡ fine → fromOne o ≡ true
+unfolding stateVerdict
+state-counts c n controller.Fresh e = refl
+state-counts c n controller.Opening e = refl
+state-counts c n (controller.Asking zero j fcb r) e = absurd (fault-fine e)
+state-counts c n (controller.Asking (suc i) j fcb r) e = refl
 
 -- The controller's step leads only to states that its next step does not refuse.
 pub state-kept : (c : Settings) (book : List Entry) (o : Controller) (s : List ℕ) {q : List ℕ} {o′ : Controller} → settingsVerdict c ≡ fine

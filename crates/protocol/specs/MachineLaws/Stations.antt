@@ -5,7 +5,7 @@ use mathlib.Core.Bool.{Bool, true, false}
 use mathlib.Core.List.{List, [], _∷_}
 use native.Mathlib.Omega.{arith}
 use lib.Dec.{ltb}
-use lib.ListN.{length, drop, set, length-append, length-drop}
+use lib.ListN.{length, set}
 use borrow.Author.Tests.{le-ltb, ltb-false}
 use Rattle.octets.specs.Choice.{_or_, by-pick, never}
 use Rattle.octets.specs.Front.{fine, over}
@@ -15,7 +15,7 @@ use Rattle.protocol.specs.Lemmas.Accepted.{Usable, usable}
 use Rattle.protocol.specs.Lemmas.Replies.{Valid, valid}
 use Rattle.protocol.specs.Lemmas.Slots.{written-sized}
 use Rattle.protocol.specs.MachineLaws.Printer.{Changes, kept, stored, slots-change}
-use Rattle.protocol.specs.MachineLaws.Room.{reply-fits}
+use Rattle.protocol.specs.MachineLaws.Room.{over-long, reply-fits}
 
 may-be-used : (diag : List ℕ) (x : Station) → Usable diag x → verdictOf diag x ≡ fine
 unfolding verdictOf
@@ -42,20 +42,18 @@ record Same (x y : Station) : Type 0 where
   long : length (y .buffer) ≡ length (x .buffer)
 
 module _ (diag : List ℕ) (n : ℕ) (x : Station) (v : Valid diag) (room : 255 ≤ length (x .buffer)) where
-  over-long : (sa : ℕ) (r : Reply) → length (over (replyBytes diag (x .printer .address) sa r) (x .buffer)) ≡ length (x .buffer)
-  over-long sa r =
-      let q : List ℕ = replyBytes diag (x .printer .address) sa r in
-      omega (arith, reply-fits diag (x .printer .address) sa r v, length-append q (drop (length q) (x .buffer)), length-drop (length q) (x .buffer))
+  still-long : (sa : ℕ) (r : Reply) → length (over (replyBytes diag (x .printer .address) sa r) (x .buffer)) ≡ length (x .buffer)
+  still-long sa r = over-long (replyBytes diag (x .printer .address) sa r) (x .buffer) (omega (arith, reply-fits diag (x .printer .address) sa r v))
 
   same-heard : (r : Received) → Same x (heardBy diag n r x .station)
   same-heard nothing = record { address = refl; long = refl }
   same-heard elsewhere = record { address = refl; long = refl }
   same-heard uncounted = record { address = refl; long = refl }
-  same-heard (status sa) = record { address = refl; long = over-long sa (bare 0) }
-  same-heard (opening sa ask) = record { address = refl; long = over-long sa (openingReply ask) }
+  same-heard (status sa) = record { address = refl; long = still-long sa (bare 0) }
+  same-heard (opening sa ask) = record { address = refl; long = still-long sa (openingReply ask) }
   same-heard (counted fcb sa ask) =
       by-pick (λ (h : Heard). Same x (h .station)) (isRepeat (x .printer) fcb sa) (λ _. record { address = refl; long = refl }) (λ _.
-      record { address = refl; long = over-long sa (perform (x .printer .boarding) n (x .printer .pending) (x .slots) (x .printer .writes) ask .reply) })
+      record { address = refl; long = still-long sa (perform (x .printer .boarding) n (x .printer .pending) (x .slots) (x .printer .writes) ask .reply) })
 
 -- A printer that may be used may be used after whatever it hears,
 pub station-kept : (diag : List ℕ) (n : ℕ) (s : List ℕ) (x : Station) → verdictOf diag x ≡ fine → verdictOf diag (hear diag n s x .station) ≡ fine
