@@ -1,0 +1,4 @@
+pub mod Deeds
+pub mod Heard
+pub mod Lengths
+pub mod Sent
