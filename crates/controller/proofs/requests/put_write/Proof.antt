@@ -1,0 +1,72 @@
+-- `controller::requests::put_write` meets its contract: what is found is template k, and its write may be written.
+use mathlib.Core.Path.{sym, _∙_}
+use mathlib.Core.List.{List}
+use Prim.Native.Nat.{ℕ}
+use denote.Ref.{now}
+use Rattle.book.specs.Contents.{templatesOf}
+use Rattle.controller.proofs.Following.{left-from}
+use Rattle.controller.proofs.Written.{Holds, holds, none-left, write-may}
+use borrow.Author.Needs.{needs}
+use Rattle.controller.proofs.requests.put_write.Statement.{statement}
+use Rattle.controller.proofs.requests.put_write.Tie as tie
+
+abbrev entry : tie.After-known-told → tie.Start
+entry c = c .before .before .before .before .before .before
+
+abbrev bookAt : tie.Start → List ℕ
+bookAt b = now (b .args .book)
+
+held : (c : tie.After-known-told) →
+    let b = entry c in
+    let f = c .before .found .given .0 in
+    Holds (bookAt b) (b .args .template) (b .pre .1) (b .pre .2) (f .0) (f .1 .0) (f .1 .1 .0)
+held c =
+    let b = entry c in
+    holds (bookAt b) (b .args .template) (b .pre .1) (b .pre .2) (sym (c .before .before .before .template .ensures) ∙ c .before .found .given .1)
+
+template-requires : tie.Need-template-requires
+template-requires c κs = search needs
+
+enum-known-found : tie.Need-enum-known-found
+enum-known-found c = search needs
+
+enum-told : tie.Need-enum-told
+enum-told c = search needs
+
+returns : tie.Need-returns
+returns c =
+    let t = c .before .before in
+    let b = t .before .before .before in
+    rw (none-left (bookAt b) (b .args .template) (b .pre .1) (b .pre .2) (sym (t .template .ensures) ∙ c .enum-told .given .1))
+
+counted-code-requires : tie.Need-counted-code-requires
+counted-code-requires c κs = search needs
+
+part-requires : tie.Need-part-requires
+part-requires c κs = search needs
+
+put-requires : tie.Need-put-requires
+put-requires c κs =
+    let p = c .before in
+    let f = p .before in
+    let k = f .before in
+    let b = entry k in
+    let h = held k in
+    write-may (b .args .settings .printer) (b .args .settings .controller) (b .pre .0 .printer) (b .pre .0 .controller) (b .args .fcb)
+    (f .counted-code .ensures) (h .slot) (p .part .ensures ∙ h .part) (h .nonempty) (h .short)
+
+same-length : tie.Need-same-length
+same-length c = search needs
+
+returns-2 : tie.Need-returns-2
+returns-2 c =
+    let w = c .before .before in
+    let p = w .before .before in
+    let f = p .before in
+    let k = f .before in
+    let b = entry k in
+    let h = held k in
+    rw (left-from (templatesOf (bookAt b)) (b .args .template) (b .pre .2) (h .most), ← f .counted-code .ensures, ← (p .part .ensures ∙ h .part), ← h .slot) (w .put .ensures)
+
+pub put-write-spec : {M : Type 1} → statement M
+put-write-spec = tie.close (tie.spec template-requires enum-known-found enum-told returns counted-code-requires part-requires put-requires same-length returns-2)
