@@ -1,6 +1,7 @@
 /*
  * Rabtunex: PROFIBUS DP telegrams, whole service telegrams, DPV1 calls and answers, and template
- * books, read and written; diagnosis and configuration data, read.
+ * books, read and written; diagnosis and configuration data, read; and the download of a template
+ * book to a printer: the step of each end, and both joined along a line.
  *
  * Every function takes all inputs and returns. It answers 0, or the refusal number of its
  * input's first fault (RABTUNEX_REFUSED_..), and then has stored nothing. Nothing is kept
@@ -356,6 +357,159 @@ uint8_t rabtunex_book_template(const uint8_t *bytes, size_t bytes_len, size_t k,
 uint8_t rabtunex_write_book(const uint8_t *slots, size_t slots_len, const uint8_t *lengths,
                             size_t lengths_len, const uint8_t *bodies, size_t bodies_len,
                             uint8_t *out, size_t out_len, size_t *stored);
+
+/* The download of a template book to a printer. */
+
+/* What is set for a download: an array of RABTUNEX_SETTINGS bytes, at these places. */
+#define RABTUNEX_SETTINGS 4
+#define RABTUNEX_SET_PRINTER 0    /* the address that requests go to, 0 to 126 */
+#define RABTUNEX_SET_CONTROLLER 1 /* the address that they come from, 0 to 126, another one */
+#define RABTUNEX_SET_REPEATS 2    /* R, how often a request is sent again, 0 to 7 */
+#define RABTUNEX_SET_POLLS 3      /* P, how often a result is asked for, 1 to 31 */
+
+/* How a download stands: an array of RABTUNEX_ENDING bytes. The template, counted from 1, is 0
+ * where the ending has none, and both codes are 0 but for RABTUNEX_ENDED_REFUSED. */
+#define RABTUNEX_ENDING 4
+#define RABTUNEX_ENDING_KIND 0 /* RABTUNEX_GOES_ON .. RABTUNEX_ENDED_STRANGE */
+#define RABTUNEX_ENDING_TEMPLATE 1
+#define RABTUNEX_ENDING_CODE1 2
+#define RABTUNEX_ENDING_CODE2 3
+
+#define RABTUNEX_GOES_ON 0          /* it has not ended: a request is to be sent */
+#define RABTUNEX_ENDED_DONE 1       /* every template is in its slot */
+#define RABTUNEX_ENDED_NO_OPENING 2 /* no diagnosis came back: no slot has changed */
+#define RABTUNEX_ENDED_NO_ANSWER 3  /* a request at the template was never answered */
+#define RABTUNEX_ENDED_NOT_READY 4  /* P polls for the template's result got "not yet" */
+#define RABTUNEX_ENDED_REFUSED 5    /* the printer refused the template, with both codes */
+#define RABTUNEX_ENDED_STRANGE 6    /* some other reply came at the template */
+
+/* What the controller remembers between two steps: an array of RABTUNEX_CONTROLLER_STATE bytes.
+ * All 0 is a fresh one: begin every download with it. A place that the kind does not have is not
+ * looked at, and is stored as 0. */
+#define RABTUNEX_CONTROLLER_STATE 5
+#define RABTUNEX_SENT 0          /* what was sent last: RABTUNEX_SENT_NOTHING .. _POLL */
+#define RABTUNEX_SENT_TEMPLATE 1 /* write and poll: for which template, counted from 1 */
+#define RABTUNEX_SENT_FCB 2      /* write and poll: its FCB, 0 or 1 */
+#define RABTUNEX_REPEATS_LEFT 3  /* write and poll: how often it may be sent again */
+#define RABTUNEX_POLLS_LEFT 4    /* poll: how many more may follow it */
+
+#define RABTUNEX_SENT_NOTHING 0
+#define RABTUNEX_SENT_OPENING 1
+#define RABTUNEX_SENT_WRITE 2
+#define RABTUNEX_SENT_POLL 3
+
+/* The controller's step: what to do now that the reply came back for the request that was sent
+ * last. Where none came in time, or none was sent yet, the reply has no bytes. Where ending is
+ * RABTUNEX_GOES_ON then, the next request stands at the front of request, of *stored bytes, and
+ * state is the controller after it; else state and request are as they were, and *stored is 0. The
+ * first fault comes first:
+ *
+ *     RABTUNEX_REFUSED_FIELD  a state that no controller has (an unknown kind, or the FCB of a
+ *                             write or poll above 1), or a bad setting
+ *     what the book is refused for
+ *     RABTUNEX_REFUSED_FIELD  a state that no download of this book leads to
+ *     RABTUNEX_REFUSED_ROOM   the request does not fit; RABTUNEX_TELEGRAM_MAX bytes are enough
+ *
+ * A whole download, where exchange sends a request, waits, and gives the count of bytes that came
+ * back, 0 for none:
+ *
+ *     uint8_t state[RABTUNEX_CONTROLLER_STATE] = {0};
+ *     uint8_t ending[RABTUNEX_ENDING];
+ *     size_t got = 0;
+ *     size_t stored;
+ *     while (rabtunex_controller_step(settings, book, book_len, state, reply, got, request,
+ *                                     RABTUNEX_TELEGRAM_MAX, &stored, ending) == 0 &&
+ *            ending[RABTUNEX_ENDING_KIND] == RABTUNEX_GOES_ON) {
+ *         got = exchange(request, stored, reply, RABTUNEX_TELEGRAM_MAX);
+ *     }
+ */
+uint8_t rabtunex_controller_step(const uint8_t settings[RABTUNEX_SETTINGS], const uint8_t *book,
+                                 size_t book_len, uint8_t state[RABTUNEX_CONTROLLER_STATE],
+                                 const uint8_t *reply, size_t reply_len, uint8_t *request,
+                                 size_t request_len, size_t *stored,
+                                 uint8_t ending[RABTUNEX_ENDING]);
+
+/* What the printer remembers between two telegrams: an array of RABTUNEX_PRINTER_STATE bytes. A
+ * fresh printer has its address, boarding as it is, RABTUNEX_NOBODY, and all else 0. A place that
+ * the pending result does not have is not looked at, and is stored as 0. */
+#define RABTUNEX_PRINTER_STATE 11
+#define RABTUNEX_PRINTER_ADDRESS 0  /* its own address, 0 to 126 */
+#define RABTUNEX_PRINTER_BOARDING 1 /* 1 while boarding, which guards slot seven, else 0 */
+#define RABTUNEX_PRINTER_FCB 2      /* FCB of the last opening or new call, 0 or 1 */
+#define RABTUNEX_PRINTER_SA 3       /* SA of it, or RABTUNEX_NOBODY */
+#define RABTUNEX_PRINTER_HELD 4     /* how many bytes at the front of reply are held, or 0 */
+#define RABTUNEX_PRINTER_PENDING 5  /* the result: RABTUNEX_PENDING_NOTHING .. _NEGATIVE */
+#define RABTUNEX_PRINTER_RESULT 6   /* three: slot, index and length; or code 1 and code 2 */
+#define RABTUNEX_PRINTER_WAIT 9     /* how many polls get "not yet" before the result */
+#define RABTUNEX_PRINTER_WRITES 10  /* writes performed since the opening, staying at 255 */
+
+#define RABTUNEX_NOBODY 255
+
+#define RABTUNEX_PENDING_NOTHING 0
+#define RABTUNEX_PENDING_POSITIVE 1
+#define RABTUNEX_PENDING_NEGATIVE 2
+
+/* The printer's slots: how many bytes of each are its template, and RABTUNEX_TEMPLATE_MAX bytes
+ * for each, one slot after the other. */
+#define RABTUNEX_SLOTS 16
+#define RABTUNEX_SLOT_BYTES (RABTUNEX_SLOTS * RABTUNEX_TEMPLATE_MAX)
+
+/* The printer's step: what it does with a telegram that reached it, or with bytes that are none.
+ * It changes state, slots and reply, and stores in *sent how many bytes at the front of reply it
+ * sends back, 0 for no reply. The held reply stands at the front of reply: lend it again unchanged
+ * at the next step. not_yet is the number of "not yet" answers for the write that it may perform.
+ * The first fault comes first:
+ *
+ *     RABTUNEX_REFUSED_FIELD  a state that no printer has (boarding or FCB above 1, an unknown
+ *                             pending result), an address above 126, a slot length above 200, or
+ *                             a diagnosis that is refused
+ *     RABTUNEX_REFUSED_ROOM   a reply buffer under RABTUNEX_TELEGRAM_MAX bytes
+ *
+ * The printer's end of the line, where receive gives the count of bytes that came in:
+ *
+ *     uint8_t state[RABTUNEX_PRINTER_STATE] = {address, 0, 0, RABTUNEX_NOBODY};
+ *     size_t sent;
+ *     for (;;) {
+ *         size_t got = receive(telegram, RABTUNEX_TELEGRAM_MAX);
+ *         if (rabtunex_printer_step(state, telegram, got, diagnosis, diagnosis_len, not_yet,
+ *                                   lengths, bodies, reply, RABTUNEX_TELEGRAM_MAX, &sent) == 0) {
+ *             transmit(reply, sent);
+ *         }
+ *     }
+ */
+uint8_t rabtunex_printer_step(uint8_t state[RABTUNEX_PRINTER_STATE], const uint8_t *telegram,
+                              size_t telegram_len, const uint8_t *diagnosis, size_t diagnosis_len,
+                              uint8_t not_yet, uint8_t lengths[RABTUNEX_SLOTS],
+                              uint8_t bodies[RABTUNEX_SLOT_BYTES], uint8_t *reply,
+                              size_t reply_len, size_t *sent);
+
+/* What the line does with a sending. */
+#define RABTUNEX_THROUGH 0
+#define RABTUNEX_REQUEST_LOST 1
+#define RABTUNEX_REPLY_LOST 2
+
+/* The most sendings of a download. */
+#define RABTUNEX_SENDINGS_MAX 4097
+
+/* A whole download to a printer that is lent, along a line that is given: both steps joined, for
+ * tools and tests. line has an entry for each sending in turn, and a missing one goes through;
+ * not_yet has the number of "not yet" answers for each write, and a missing one is 0. It stores how
+ * it ended and, in *sendings, after how many sendings; state, slots and both buffers are as the
+ * steps left them. The first fault comes first, and nothing is sent then:
+ *
+ *     RABTUNEX_REFUSED_FIELD  a state that no printer has, or a bad setting
+ *     what the book is refused for
+ *     RABTUNEX_REFUSED_FIELD  an entry of the line above RABTUNEX_REPLY_LOST; then what the
+ *                             printer's step gives it for
+ *     RABTUNEX_REFUSED_ROOM   a buffer under RABTUNEX_TELEGRAM_MAX bytes
+ */
+uint8_t rabtunex_download(const uint8_t settings[RABTUNEX_SETTINGS], const uint8_t *book,
+                          size_t book_len, const uint8_t *line, size_t line_len,
+                          const uint8_t *not_yet, size_t not_yet_len, const uint8_t *diagnosis,
+                          size_t diagnosis_len, uint8_t state[RABTUNEX_PRINTER_STATE],
+                          uint8_t lengths[RABTUNEX_SLOTS], uint8_t bodies[RABTUNEX_SLOT_BYTES],
+                          uint8_t *reply, size_t reply_len, uint8_t *request, size_t request_len,
+                          uint8_t ending[RABTUNEX_ENDING], size_t *sendings);
 
 #ifdef __cplusplus
 }

@@ -1,0 +1,3 @@
+pub mod PrinterEnd
+pub mod ControllerEnd
+pub mod Joined
