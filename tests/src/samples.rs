@@ -10,6 +10,7 @@ pub mod acyclic_fields;
 pub mod books;
 pub mod configuration;
 pub mod control;
+pub mod controllers;
 pub mod diagnosis;
 pub mod downloads;
 pub mod parameters;
@@ -19,6 +20,7 @@ pub mod service_pairs;
 pub mod service_telegrams;
 pub mod services;
 pub mod shown;
+pub mod simulated;
 pub mod typed;
 pub mod writers;
 
@@ -268,6 +270,17 @@ fn body_start(frame: &[u8]) -> usize {
 pub fn mend(frame: &mut [u8]) {
     let fcs = frame.len() - 2;
     frame[fcs] = sum(&frame[body_start(frame)..fcs]);
+}
+
+/// The frame to and from these stations.
+fn readdressed(frame: Vec<u8>, stations: [u8; 2]) -> Vec<u8> {
+    let mut frame = frame;
+    let da = body_start(&frame);
+    for (address, station) in frame[da..].iter_mut().zip(stations) {
+        *address = *address & EXTENSION_FLAG | station;
+    }
+    mend(&mut frame);
+    frame
 }
 
 /// The telegram with one byte changed to another.

@@ -1,25 +1,32 @@
-//! The library's programs and the reference on the same input: the show program
-//! prints the reference's lines, and the files that the vectors program is run on
-//! and held to are the reference's.
+//! The library's programs and the reference on the same input: the show and the
+//! simulate program print the reference's lines, and the files that the vectors and
+//! the simulate program are run on and held to are the reference's.
 
 #![forbid(unsafe_code)]
 
 mod repository;
+// These counts are not known beforehand.
+#[allow(dead_code)]
+mod tally;
 
 use rabtunex_tests::random::Random;
 use rabtunex_tests::reference::parameters::Mode;
-use rabtunex_tests::reference::{show_text, text};
-use rabtunex_tests::samples::{self, service_telegrams, shown as words, Saps};
+use rabtunex_tests::reference::{show_text, simulate_text, text};
+use rabtunex_tests::samples::downloads::worked;
+use rabtunex_tests::samples::{self, service_telegrams, shown as words, simulated, Saps};
 use repository::root;
 use std::fs;
 use std::io::{ErrorKind, Write};
 use std::process::{Command, Stdio};
 use std::sync::Once;
+use tally::Tally;
 
 const SAMPLES_OF_EACH_KIND: usize = 40;
 /// Service telegrams of any form, and those with each kind of damage.
 const VALID_SERVICES: usize = 120;
 const SERVICES_OF_EACH_DAMAGE: usize = 6;
+/// Downloads of each kind of input.
+const DOWNLOADS_OF_EACH_KIND: usize = 60;
 
 /// One sample of a kind.
 type Make = fn(&mut Random) -> Vec<u8>;
@@ -58,33 +65,50 @@ fn any_sd3(random: &mut Random) -> Vec<u8> {
     samples::sd3(random, saps)
 }
 
-/// What the show program prints for these bytes.
-fn shown(bytes: &[u8]) -> String {
+/// What a program prints for these bytes.
+fn printed(program: &str, bytes: &[u8]) -> String {
     // The first run may build the program, which no two may do side by side.
     static BUILT: Once = Once::new();
-    BUILT.call_once(|| drop(run_show(&[])));
-    run_show(bytes)
+    BUILT.call_once(|| {
+        for program in ["show", "simulate"] {
+            run(program, &[]);
+        }
+    });
+    run(program, bytes)
 }
 
-fn run_show(bytes: &[u8]) -> String {
-    let mut program = Command::new(root().join("show"))
+fn run(program: &str, bytes: &[u8]) -> String {
+    let mut child = Command::new(root().join(program))
         .stdin(Stdio::piped())
         .stdout(Stdio::piped())
         .spawn()
-        .expect("show starts");
-    let written = program.stdin.take().expect("piped").write_all(bytes);
+        .unwrap_or_else(|error| panic!("{program}: {error}"));
+    let written = child.stdin.take().expect("piped").write_all(bytes);
     if let Err(error) = written {
         // The program reads no more than can matter, and is done.
         assert_eq!(error.kind(), ErrorKind::BrokenPipe, "{error}");
     }
-    let output = program.wait_with_output().expect("show ends");
-    assert!(output.status.success(), "show: {}", output.status);
+    let output = child.wait_with_output().expect("it ends");
+    assert!(output.status.success(), "{program}: {}", output.status);
     String::from_utf8(output.stdout).expect("text")
+}
+
+/// What the show program prints for these bytes.
+fn shown(bytes: &[u8]) -> String {
+    printed("show", bytes)
 }
 
 fn check_shown(name: &str, bytes: &[u8]) {
     let expected = show_text::lines(bytes);
     assert_eq!(shown(bytes), expected, "{name}: {bytes:02X?}");
+}
+
+/// The lines of the simulate program, which must be the reference's.
+fn check_simulated(name: &str, bytes: &[u8]) -> String {
+    let expected = simulate_text::lines(bytes);
+    let name = format!("{name}: {bytes:02X?}");
+    check_same_lines(&name, &printed("simulate", bytes), &expected);
+    expected
 }
 
 #[test]
@@ -182,6 +206,46 @@ fn seeded_service_telegrams_are_shown() {
     println!("seeded service telegrams shown: {count}");
 }
 
+/// Document 01's download, and the same while boarding.
+#[test]
+fn worked_downloads_are_simulated() {
+    let done = check_simulated("worked", &simulated::input(&worked()));
+    let codes = done.lines().filter_map(|line| {
+        let (_, rest) = line.split_once(" fc ")?;
+        rest.get(..2)
+    });
+    assert!(codes.eq(["6D", "5C", "5C", "7C", "5C", "5C"]), "{done}");
+    assert!(done.ends_with("done after 6 sendings\nnew slot 7 length 3\n"));
+    let refused = check_simulated("boarding", &simulated::worked_while_boarding());
+    assert!(refused.ends_with("refused at 1 codes B6 00 after 6 sendings\n"));
+}
+
+#[test]
+fn seeded_downloads_are_simulated() {
+    let random = &mut Random::new(2035);
+    let mut tally = Tally::new("seeded downloads simulated");
+    for (name, make) in simulated::KINDS {
+        for _ in 0..DOWNLOADS_OF_EACH_KIND {
+            let lines = check_simulated(name, &make(random));
+            tally.add(simulate_text::ending_words(&lines));
+        }
+    }
+    for bytes in simulated::at_the_limit() {
+        let lines = check_simulated("8192 bytes or one more", &bytes);
+        tally.add(simulate_text::ending_words(&lines));
+    }
+    tally.expect_only(&simulated::ENDINGS.map(String::from));
+}
+
+/// The program is run on document 01's download, and held to the reference's lines.
+#[test]
+fn files_of_simulate_are_the_references() {
+    let input = simulated::input(&worked());
+    assert_eq!(file("crates/simulate/stdin"), input);
+    let lines = simulate_text::lines(&input);
+    assert_eq!(file("crates/simulate/stdout"), lines.as_bytes());
+}
+
 #[test]
 fn vectors_are_the_references() {
     let made = Command::new(env!("CARGO_BIN_EXE_reference"))
@@ -190,17 +254,20 @@ fn vectors_are_the_references() {
         .expect("reference runs");
     assert!(made.status.success(), "reference: {}", made.status);
     let made = String::from_utf8(made.stdout).expect("text");
-    let vectors = file_of_vectors("stdin");
+    let vectors = text_file("crates/vectors/stdin");
     check_same_lines("crates/vectors/stdin", &vectors, &made);
     let answers = text::answers(&vectors).expect("well-formed");
-    let stored = file_of_vectors("stdout");
+    let stored = text_file("crates/vectors/stdout");
     check_same_lines("crates/vectors/stdout", &stored, &answers);
     println!("vectors compared: {}", answers.lines().count());
 }
 
-fn file_of_vectors(name: &str) -> String {
-    let path = root().join("crates/vectors").join(name);
-    fs::read_to_string(&path).unwrap_or_else(|error| panic!("{}: {error}", path.display()))
+fn text_file(name: &str) -> String {
+    String::from_utf8(file(name)).expect("text")
+}
+
+fn file(name: &str) -> Vec<u8> {
+    fs::read(root().join(name)).unwrap_or_else(|error| panic!("{name}: {error}"))
 }
 
 /// Names the first line that differs, where the whole text would be too long.

@@ -3,12 +3,12 @@
 
 #![forbid(unsafe_code)]
 
-use rabtunex_tests::reference::{service_telegram_text, show_text, text};
+use rabtunex_tests::reference::{service_telegram_text, show_text, simulate_text, text};
 use rabtunex_tests::samples::{self, service_telegrams, services, writers, Group};
 use std::io::{self, Read, Write};
 use std::process::ExitCode;
 
-const USAGE: &str = "usage: reference show|vectors|make-vectors";
+const USAGE: &str = "usage: reference show|simulate|vectors|make-vectors";
 
 fn main() -> ExitCode {
     let arguments: Vec<String> = std::env::args().skip(1).collect();
@@ -33,6 +33,7 @@ fn main() -> ExitCode {
 fn run(command: &str) -> Result<String, String> {
     match command {
         "show" => Ok(show_text::lines(&input()?)),
+        "simulate" => Ok(simulate_text::lines(&input()?)),
         "vectors" => answer_vectors(&input()?),
         "make-vectors" => Ok(make_vectors()),
         _ => Err(String::from(USAGE)),

@@ -103,8 +103,7 @@ mod tests {
     use crate::reference::expect;
     use crate::samples::books as sample;
 
-    /// Two templates, of two bytes and of one.
-    const GOOD: [u8; 8] = [2, 3, 2, 15, 1, 0x41, 0x42, 0x43];
+    const GOOD: [u8; 8] = sample::SMALL_BOOK;
 
     #[test]
     fn worked_book() {

@@ -110,6 +110,20 @@ pub enum Ending {
     Strange(u8),
 }
 
+impl Ending {
+    /// Document 01's word for it.
+    pub fn name(self) -> &'static str {
+        match self {
+            Ending::Done => "done",
+            Ending::NoOpening => "no opening",
+            Ending::NoAnswer(_) => "no answer",
+            Ending::NotReady(_) => "not ready",
+            Ending::Refused { .. } => "refused",
+            Ending::Strange(_) => "strange reply",
+        }
+    }
+}
+
 /// What a controller does next.
 #[derive(Clone, Copy, Debug, PartialEq, Eq)]
 pub enum Move {
@@ -125,7 +139,7 @@ pub enum Move {
 }
 
 /// What the controller makes of a reply's bytes.
-enum Heard {
+pub(super) enum Heard {
     /// No reply, or bytes that framing refuses.
     Nothing,
     /// SC.
@@ -137,7 +151,7 @@ enum Heard {
 }
 
 impl Heard {
-    fn of(reply: &[u8], settings: &Settings) -> Self {
+    pub(super) fn of(reply: &[u8], settings: &Settings) -> Self {
         match telegram::read(reply) {
             Err(_) => return Heard::Nothing,
             Ok(Telegram::ShortConfirmation) => return Heard::Confirmation,
@@ -316,20 +330,14 @@ fn write(
 mod tests {
     use super::*;
     use crate::random::Random;
-    use crate::samples::{self, books, diagnosis as diagnoses, sd2_around as sd2, FUNCTION_CODES};
+    use crate::samples::FUNCTION_CODES;
+    use crate::samples::{self, books, diagnosis as diagnoses, downloads, sd2_around as sd2};
     use std::collections::BTreeSet;
 
     const SC: &[u8] = &[0xE5];
     const NONE: &[u8] = &[];
-    /// To the printer 7 from the controller 2.
-    const SETTINGS: Settings = Settings {
-        repeats: 1,
-        polls: 2,
-        printer: 7,
-        controller: 2,
-    };
-    /// Two templates, of two bytes for slot 3 and of one for slot 15.
-    const BOOK: [u8; 8] = [2, 3, 2, 15, 1, 0x41, 0x42, 0x43];
+    const SETTINGS: Settings = downloads::WORKED_SETTINGS;
+    const BOOK: [u8; 8] = books::SMALL_BOOK;
     const ROOM: usize = 300;
 
     /// What a step does, in an output with room: the bytes of the request and

@@ -15,6 +15,7 @@ pub mod service;
 pub mod service_telegram_text;
 pub mod service_text;
 pub mod show_text;
+pub mod simulate_text;
 pub mod telegram;
 pub mod text;
 pub mod typed;

@@ -5,10 +5,11 @@ use super::book;
 use super::controller::Ending;
 use super::download::{run, run_along, Lent, Line, Outcome, Plan, Sending};
 use super::download::{REPLY_LOST, REQUEST_LOST, THROUGH};
-use super::printer::{Printer, Slots, BUFFER_ROOM};
+use super::printer::{Slots, BUFFER_ROOM};
 use super::telegram;
 use crate::random::Random;
-use crate::samples::downloads::{any_scene, bound, worked, Scene};
+use crate::samples::controllers::data_reply;
+use crate::samples::downloads::{any_scene, bound, worked_on_every_line, Scene};
 use crate::samples::{self, sd2_around as sd2};
 use std::collections::BTreeMap;
 
@@ -193,13 +194,6 @@ impl Run {
         let addresses = [0x80 | settings.printer, 0x80 | settings.controller];
         sd2(&[&addresses[..], &[fc], &saps, data].concat())
     }
-
-    /// The bytes of a reply with data, in the same way.
-    fn to_controller(&self, saps: [u8; 2], data: &[u8]) -> Vec<u8> {
-        let settings = &self.given.settings;
-        let addresses = [0x80 | settings.controller, 0x80 | settings.printer];
-        sd2(&[&addresses[..], &[0x08], &saps, data].concat())
-    }
 }
 
 /// Every sentence.
@@ -310,7 +304,7 @@ fn check_count_of_writes(run: &Run, asked: &[Asked<'_>]) {
 /// Each ending is given exactly when document 01 says.
 fn check_ending(run: &Run, opening: &Sent, asked: &[Asked<'_>]) {
     let ending = run.outcome.ending;
-    let opened = run.to_controller([62, 60], &run.given.diagnosis);
+    let opened = data_reply(&run.given.settings, [62, 60], &run.given.diagnosis);
     let is_opened = run.answer(opening) == Some(&opened[..]);
     assert_eq!(ending == Ending::NoOpening, !is_opened);
 
@@ -380,44 +374,19 @@ fn check_slots(run: &Run, asked: &[Asked<'_>]) {
     assert!((least..=most).contains(&news), "{news}");
 }
 
-fn name(ending: Ending) -> &'static str {
-    match ending {
-        Ending::Done => "done",
-        Ending::NoOpening => "no opening",
-        Ending::NoAnswer(_) => "no answer",
-        Ending::NotReady(_) => "not ready",
-        Ending::Refused { .. } => "refused",
-        Ending::Strange(_) => "strange reply",
-    }
-}
-
 /// How many runs came to each ending; each must, but for a strange reply.
 #[derive(Default)]
 struct Tally(BTreeMap<&'static str, usize>);
 
 impl Tally {
     fn add(&mut self, run: &Run) {
-        *self.0.entry(name(run.outcome.ending)).or_default() += 1;
+        *self.0.entry(run.outcome.ending.name()).or_default() += 1;
     }
 
     fn expect_all(&self, title: &str) {
         println!("{title}: {:?}", self.0);
         let expected = ["done", "no answer", "no opening", "not ready", "refused"];
         assert!(self.0.keys().eq(&expected), "{:?}", self.0);
-    }
-}
-
-/// The scene with the printer as another download left it.
-fn after(run: &Run, scene: Scene) -> Scene {
-    Scene {
-        printer: Printer {
-            address: scene.printer.address,
-            boarding: scene.printer.boarding,
-            ..run.outcome.printer
-        },
-        slots: run.slots.clone(),
-        reply: run.reply,
-        ..scene
     }
 }
 
@@ -430,7 +399,7 @@ fn hold_for_any_line() {
     for _ in 0..20_000 {
         let mut scene = any_scene(random);
         if let Some(left) = last.filter(|_| random.below(2) == 0) {
-            scene = after(&left, scene);
+            scene = scene.after(left.outcome.printer, left.slots, left.reply);
         }
         let run = Run::with_losses(&scene);
         check(&run);
@@ -446,20 +415,11 @@ fn hold_for_any_line() {
 fn hold_for_every_line_of_the_worked_download() {
     let random = &mut Random::new(2);
     let mut tally = Tally::default();
-    let scene = worked();
-    let length = bound(&scene.settings, scene.count());
-    for number in 0..3_usize.pow(length as u32) {
-        let digits = (0..length as u32).map(|place| (number / 3_usize.pow(place) % 3) as u8);
-        let mut scene = scene.clone();
-        scene.line = digits.collect();
-        for (not_yet, boarding) in (0..4).flat_map(|not_yet| [(not_yet, false), (not_yet, true)]) {
-            scene.not_yet = vec![not_yet];
-            scene.printer.boarding = boarding;
-            let run = Run::with_losses(&scene);
-            check(&run);
-            assert_eq!(Run::with_damage(&scene, random), run);
-            tally.add(&run);
-        }
+    for scene in worked_on_every_line() {
+        let run = Run::with_losses(&scene);
+        check(&run);
+        assert_eq!(Run::with_damage(&scene, random), run);
+        tally.add(&run);
     }
     tally.expect_all("every line of the worked download");
 }

@@ -6,6 +6,9 @@ use crate::random::Random;
 /// Document 01's book: three bytes for slot seven.
 pub const WORKED_BOOK: [u8; 6] = [1, 7, 3, 0x41, 0x42, 0x43];
 
+/// Two bytes for slot 3 and one for slot 15.
+pub const SMALL_BOOK: [u8; 8] = [2, 3, 2, 15, 1, 0x41, 0x42, 0x43];
+
 /// The longest book: 16 templates of 200 bytes.
 pub const LONGEST: usize = 1 + 2 * MOST + MOST * LONGEST_BODY;
 

@@ -13,6 +13,9 @@ use crate::reference::printer::{Printer, Slots, BUFFER_ROOM, SLOTS, SLOT_ROOM};
 const LAST_STATION: usize = 126;
 /// The most that a line loses, in percent.
 const MOST_LOSS: usize = 90;
+/// The most entries of a line and numbers of "not yet" answers that no download
+/// uses.
+const MOST_LEFT_OVER: usize = 4;
 
 /// Everything that a download is given.
 #[derive(Clone, Debug, PartialEq, Eq)]
@@ -51,18 +54,39 @@ impl Scene {
     pub fn count(&self) -> usize {
         usize::from(self.book[0])
     }
+
+    /// The same download to the printer as other work left it, which changes
+    /// neither its address nor whether it is boarding.
+    pub fn after(self, left: Printer, slots: Slots, reply: [u8; BUFFER_ROOM]) -> Self {
+        let Printer {
+            address, boarding, ..
+        } = self.printer;
+        Scene {
+            printer: Printer {
+                address,
+                boarding,
+                ..left
+            },
+            slots,
+            reply,
+            ..self
+        }
+    }
 }
+
+/// The settings of document 01's download, to the printer 7 from the controller 2.
+pub const WORKED_SETTINGS: Settings = Settings {
+    repeats: 1,
+    polls: 2,
+    printer: 7,
+    controller: 2,
+};
 
 /// Document 01's download, to a printer 7 that has heard nothing and has no
 /// templates.
 pub fn worked() -> Scene {
     Scene {
-        settings: Settings {
-            repeats: 1,
-            polls: 2,
-            printer: 7,
-            controller: 2,
-        },
+        settings: WORKED_SETTINGS,
         book: books::WORKED_BOOK.to_vec(),
         line: vec![THROUGH, REQUEST_LOST, THROUGH, THROUGH, REPLY_LOST, THROUGH],
         not_yet: vec![1],
@@ -74,6 +98,29 @@ pub fn worked() -> Scene {
         },
         reply: [0; BUFFER_ROOM],
     }
+}
+
+/// Document 01's download along every line that is as long as its bound, with
+/// each number of "not yet" answers from 0 to 3, boarding and not.
+pub fn worked_on_every_line() -> impl Iterator<Item = Scene> {
+    let scene = worked();
+    let length = bound(&scene.settings, scene.count()) as u32;
+    let lines = (0..3_usize.pow(length)).map(move |number| {
+        let digits = (0..length).map(|place| (number / 3_usize.pow(place) % 3) as u8);
+        digits.collect::<Vec<u8>>()
+    });
+    let printers = (0..4).flat_map(|not_yet| [(not_yet, false), (not_yet, true)]);
+    lines.flat_map(move |line| {
+        let scene = Scene {
+            line,
+            ..scene.clone()
+        };
+        printers.clone().map(move |(not_yet, boarding)| Scene {
+            not_yet: vec![not_yet],
+            printer: Printer::fresh(scene.printer.address, boarding),
+            ..scene.clone()
+        })
+    })
 }
 
 /// Any download that is not refused. Some go to another station than the
@@ -124,12 +171,28 @@ pub fn any_settings(random: &mut Random) -> Settings {
     }
 }
 
-/// A line that loses 0 to 90 percent and is as long as the bound or shorter. Its
-/// first entry often goes through, without which there is nothing to see of the
-/// others.
+/// Settings of which one is out of range, or both addresses the same.
+pub fn any_wrong_settings(random: &mut Random) -> Settings {
+    let mut settings = any_settings(random);
+    let mut above = |limit: usize| random.between(limit + 1, 255) as u8;
+    let (repeats, polls, address) = (above(7), above(31), above(LAST_STATION));
+    match random.below(6) {
+        0 => settings.repeats = repeats,
+        1 => settings.polls = polls,
+        2 => settings.polls = 0,
+        3 => settings.printer = address,
+        4 => settings.controller = address,
+        _ => settings.controller = settings.printer,
+    }
+    settings
+}
+
+/// A line that loses 0 to 90 percent and has entries for all sendings, for fewer
+/// or for some more. Its first entry often goes through, without which there is
+/// nothing to see of the others.
 fn any_line(random: &mut Random, bound: usize) -> Vec<u8> {
     let loss = random.between(0, MOST_LOSS);
-    let length = random.between(0, bound);
+    let length = random.between(0, bound + MOST_LEFT_OVER);
     let mut line: Vec<u8> = (0..length)
         .map(|_| match random.below(100) < loss {
             true => *random.pick(&[REQUEST_LOST, REPLY_LOST]),
@@ -142,10 +205,10 @@ fn any_line(random: &mut Random, bound: usize) -> Vec<u8> {
     line
 }
 
-/// As many numbers as there are templates or fewer, every second time all below
-/// P.
+/// As many numbers as there are templates, fewer or some more, every second time
+/// all below P.
 fn any_not_yet(random: &mut Random, count: usize, polls: u8) -> Vec<u8> {
-    let length = random.between(0, count);
+    let length = random.between(0, count + MOST_LEFT_OVER);
     let are_all_below = random.below(2) == 0;
     (0..length)
         .map(|_| match random.below(8) {

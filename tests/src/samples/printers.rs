@@ -1,8 +1,8 @@
 //! Samples of a printer's states and slots, and of what it may hear.
 
 use super::service_telegrams::any_valid as any_service;
-use super::{any_valid as any_telegram, body_start, changed_and_mended, changed_cut_or_lengthened};
-use super::{mend, mostly_up_to, often_up_to, sd1, sd2_around, EXTENSION_FLAG};
+use super::{any_valid as any_telegram, changed_and_mended, changed_cut_or_lengthened};
+use super::{mostly_up_to, often_up_to, readdressed, sd1, sd2_around, EXTENSION_FLAG};
 use crate::random::Random;
 use crate::reference::parameters::Mode;
 use crate::reference::printer::{Pending, Printer, Slots, WriteResult, NOBODY, SLOTS, SLOT_ROOM};
@@ -86,21 +86,19 @@ pub fn any_heard(random: &mut Random, address: u8) -> Vec<u8> {
         6 | 7 => srd(random, address, [60, 62], &[]),
         8..=11 => srd(random, address, [51, 51], &[]),
         _ => {
-            let data = any_write(random);
+            let mut data = any_write(random);
+            if random.below(8) == 0 {
+                // Its length is another then.
+                data.pop();
+            }
             srd(random, address, [51, 51], &data)
         }
     }
 }
 
-/// The frame with these stations for its own.
+/// The frame as one of a master to the printer.
 fn addressed(random: &mut Random, frame: Vec<u8>, address: u8) -> Vec<u8> {
-    let mut frame = frame;
-    let da = body_start(&frame);
-    for (place, station) in [(da, address), (da + 1, any_master(random))] {
-        frame[place] = frame[place] & EXTENSION_FLAG | station;
-    }
-    mend(&mut frame);
-    frame
+    readdressed(frame, [address, any_master(random)])
 }
 
 fn srd(random: &mut Random, address: u8, saps: [u8; 2], data: &[u8]) -> Vec<u8> {

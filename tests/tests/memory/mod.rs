@@ -11,8 +11,6 @@ pub const MOST_ROOM: usize = 300;
 const MARGIN: usize = 255;
 /// The same for fields, which are few.
 const BESIDE: usize = 8;
-/// What stands in the count before a writing, and beside it.
-const UNSTORED: [usize; 3] = [usize::MAX - 2, usize::MAX - 1, usize::MAX];
 
 /// What stands in memory before a call: bytes next to each other are different,
 /// since one may be stored that stood there before.
@@ -46,14 +44,51 @@ impl<const N: usize> Lent<N> {
     }
 }
 
+/// A lent buffer of any length, with a margin on either side.
+#[derive(Clone, Debug, PartialEq, Eq)]
+pub struct Buffer {
+    memory: Vec<u8>,
+}
+
+impl Buffer {
+    /// As it is lent.
+    pub fn untouched(room: usize) -> Self {
+        let memory = (0..MARGIN + room + MARGIN).map(untouched).collect();
+        Buffer { memory }
+    }
+
+    /// What is lent.
+    pub fn lent(&mut self) -> &mut [u8] {
+        let end = self.memory.len() - MARGIN;
+        &mut self.memory[MARGIN..end]
+    }
+}
+
+/// A lent count, and a number on either side that is not lent.
+#[derive(Clone, Copy, Debug, PartialEq, Eq)]
+pub struct Count([usize; 3]);
+
+impl Count {
+    /// As it is lent.
+    pub const UNSTORED: Self = Count::holding(usize::MAX - 1);
+
+    /// As it must be when this was stored.
+    pub const fn holding(count: usize) -> Self {
+        Count([usize::MAX - 2, count, usize::MAX])
+    }
+
+    /// What is lent.
+    pub fn lent(&mut self) -> &mut usize {
+        &mut self.0[1]
+    }
+}
+
 /// All that a writing may have changed.
 #[derive(Debug, PartialEq, Eq)]
 pub struct Written {
     number: u8,
-    /// The count, and a number on either side that is not lent.
-    stored: [usize; 3],
-    /// The room, with a margin on either side.
-    memory: Vec<u8>,
+    stored: Count,
+    memory: Buffer,
 }
 
 impl Written {
@@ -61,24 +96,23 @@ impl Written {
     pub fn nothing(number: u8, room: usize) -> Self {
         Written {
             number,
-            stored: UNSTORED,
-            memory: (0..MARGIN + room + MARGIN).map(untouched).collect(),
+            stored: Count::UNSTORED,
+            memory: Buffer::untouched(room),
         }
     }
 
     /// These bytes, their count and 0.
     pub fn bytes(bytes: &[u8], room: usize) -> Self {
         let mut written = Written::nothing(0, room);
-        written.stored[1] = bytes.len();
-        written.memory[MARGIN..][..bytes.len()].copy_from_slice(bytes);
+        written.stored = Count::holding(bytes.len());
+        written.memory.lent()[..bytes.len()].copy_from_slice(bytes);
         written
     }
 
     /// What a call changes that is lent so much room, and a count.
     pub fn by(room: usize, write: impl FnOnce(&mut [u8], &mut usize) -> u8) -> Self {
         let mut written = Written::nothing(0, room);
-        let out = &mut written.memory[MARGIN..][..room];
-        written.number = write(out, &mut written.stored[1]);
+        written.number = write(written.memory.lent(), written.stored.lent());
         written
     }
 }
