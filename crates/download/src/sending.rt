@@ -1,7 +1,7 @@
 // One sending of a request.
 ghost use mathlib.Core.Path.{_≡_};
 ghost use lib.ListN.{getD};
-ghost use Rattle.protocol.specs.Printer as printer-step;
+ghost use Rattle.protocol.specs.Printer.{lending, leaving};
 ghost use Rattle.download.specs.Sending.{sentOf, quieted};
 use protocol::Printer;
 use protocol::Reaction;
@@ -38,8 +38,8 @@ pub fn send(
     bodies: &mut [u8; 3200],
     reply: &mut [u8],
 ) -> Reaction
-    ensures { λ r. ⌜ printer-step.leaving r (now (lengths .exit)) (now (bodies .exit)) (now (reply .exit))
-        ≡ sentOf entry (now (request .entry)) (now («not_yet» .entry)) (now (diagnosis .entry)) (printer-step.lending printer (now (lengths .entry)) (now (bodies .entry)) (now (reply .entry))) ⌝ }
+    ensures { λ r. ⌜ leaving r (now (lengths .exit)) (now (bodies .exit)) (now (reply .exit))
+        ≡ sentOf entry (now (request .entry)) (now («not_yet» .entry)) (now (diagnosis .entry)) (lending printer (now (lengths .entry)) (now (bodies .entry)) (now (reply .entry))) ⌝ }
 {
     if 2 < entry {
         return Reaction::Refused(12);
