@@ -12,6 +12,7 @@ pub mod configuration;
 pub mod control;
 pub mod controllers;
 pub mod diagnosis;
+pub mod download_lines;
 pub mod downloads;
 pub mod parameters;
 pub mod printers;

@@ -15,7 +15,7 @@ mod tally;
 
 use archive::pairs;
 use archive::Outcome::{self, Accepted, Refused};
-use controller_side::{standing_of, State, GOES_ON};
+use controller_side::{State, GOES_ON};
 use memory::{any_room, Lent, Written, MOST_ROOM};
 use rabtunex_tests::random::Random;
 use rabtunex_tests::reference::controller::{self, Move, Request, Settings, Turn};
@@ -138,7 +138,7 @@ impl Stepped {
                 Accepted(request_kind(before, state))
             }
             Ok(Move::End(ending)) => {
-                stepped.standing = Lent::holding(standing_of(ending));
+                stepped.standing = Lent::holding(ending.fields());
                 Accepted(ending.name())
             }
             Err(number) => {

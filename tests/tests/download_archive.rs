@@ -16,7 +16,7 @@ mod printer_side;
 mod tally;
 
 use archive::Outcome::{self, Accepted, Refused};
-use controller_side::{settings_of, standing_of, Standing, GOES_ON};
+use controller_side::{settings_of, Standing, GOES_ON};
 use memory::{Buffer, Count, Lent};
 use printer_side::{any_buffer_too_short, Bodies, Given, Lengths, State, Station};
 use printer_side::{NO_PRINTERS, NO_ROOM, NO_STATES};
@@ -143,7 +143,7 @@ fn run_reference(plan: &Plan<'_>, memory: &mut Memory) -> Result<download::Outco
     };
     let outcome = download::run(plan, printer, lent, |_| {})?;
     memory.station.store(&outcome.printer, &slots);
-    memory.end(standing_of(outcome.ending), outcome.sendings);
+    memory.end(outcome.ending.fields(), outcome.sendings);
     Ok(outcome)
 }
 

@@ -224,9 +224,9 @@ fn worked_downloads_are_simulated() {
 fn seeded_downloads_are_simulated() {
     let random = &mut Random::new(2035);
     let mut tally = Tally::new("seeded downloads simulated");
-    for (name, make) in simulated::KINDS {
+    for kind in simulated::kinds() {
         for _ in 0..DOWNLOADS_OF_EACH_KIND {
-            let lines = check_simulated(name, &make(random));
+            let lines = check_simulated(kind.name, &kind.sample(random));
             tally.add(simulate_text::ending_words(&lines));
         }
     }

@@ -11,9 +11,10 @@ use numbers::Numbers;
 use rabtunex_tests::random::Random;
 use rabtunex_tests::reference::parameters::Mode;
 use rabtunex_tests::reference::service_text::Service;
-use rabtunex_tests::reference::{service_telegram_text, text};
+use rabtunex_tests::reference::{download_text, service_telegram_text, text};
 use rabtunex_tests::samples::services::{self, Source};
-use rabtunex_tests::samples::{self, books, parameters::MODES, service_telegrams};
+use rabtunex_tests::samples::{self, books, parameters::MODES};
+use rabtunex_tests::samples::{download_lines, service_telegrams};
 use std::collections::BTreeMap;
 
 /// How many inputs each service gets at least.
@@ -91,19 +92,20 @@ fn bytes_far_behind_a_book_are_answered_alike() {
 
 /// Nothing of the service before, nor of its data, may be left over.
 #[test]
-fn services_and_telegrams_in_turn_are_answered_alike() {
+fn services_telegrams_and_downloads_in_turn_are_answered_alike() {
     let random = &mut Random::new(7);
     let mut vectors = String::new();
     for _ in 0..TURNS {
-        let (letter, bytes) = match random.below(Service::ALL.len() + 2) {
+        let (letter, bytes) = match random.below(Service::ALL.len() + 3) {
             0 => (text::TELEGRAMS, samples::any_valid(random)),
             1 => {
                 let mode = *random.pick(&MODES);
                 let bytes = service_telegrams::any_valid(random, mode);
                 (service_telegram_text::letter(mode), bytes)
             }
+            2 => (download_text::LETTER, download_lines::any_right(random)),
             place => {
-                let service = Service::ALL[place - 2];
+                let service = Service::ALL[place - 3];
                 (service.letter(), services::any_valid(random, service))
             }
         };
@@ -111,7 +113,7 @@ fn services_and_telegrams_in_turn_are_answered_alike() {
     }
     let numbers = Numbers::of(&vectors::answers(&vectors));
     assert_eq!(numbers.counts, BTreeMap::from([(0, TURNS)]));
-    println!("services and telegrams in turn: {TURNS} cases");
+    println!("services, telegrams and downloads in turn: {TURNS} cases");
 }
 
 /// Runs the service's inputs through both, and prints how often each number

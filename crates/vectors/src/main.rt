@@ -1,12 +1,13 @@
-// Telegrams, also those of services, the data of services, template books and fields for the writers of
-// both as hex text on standard input, and the answer to each as a line on standard output: an independent
-// program answers the same text, and the two are compared.
+// Telegrams, also those of services, the data of services, template books, fields for the writers of both
+// and whole downloads as hex text on standard input, and the answer to each as a line on standard output:
+// an independent program answers the same text, and the two are compared.
 mod acyclic_line;
 mod answer;
 mod book_line;
 mod configuration_line;
 mod control_line;
 mod diagnosis_line;
+mod download_line;
 mod line;
 mod outcome;
 mod parameters_line;

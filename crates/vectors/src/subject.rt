@@ -19,6 +19,7 @@ use crate::diagnosis_line::device_fields;
 use crate::diagnosis_line::diagnosis_fields;
 use crate::diagnosis_line::diagnosis_line;
 use crate::diagnosis_line::map_fields;
+use crate::download_line::download_line;
 use crate::outcome::behind;
 use crate::parameters_line::dpv0_fields;
 use crate::parameters_line::dpv1_fields;
@@ -43,6 +44,7 @@ pub(crate) enum Subject {
     // Whole telegrams of services, with parameters of either version.
     Service,
     Dpv1Service,
+    Download,
     // Behind a byte that says how much room the writer is lent, the fields that it is given.
     Fields(Writer),
 }
@@ -85,6 +87,7 @@ pub(crate) fn subject_of(letter: u8) -> Named {
         b'b' => Named::Is(Subject::Book),
         b's' => Named::Is(Subject::Service),
         b'u' => Named::Is(Subject::Dpv1Service),
+        b'l' => Named::Is(Subject::Download),
         _ => Named::Unknown,
     }
 }
@@ -165,6 +168,7 @@ pub(crate) fn answer_to(subject: Subject, bytes: &[u8], out: &mut [u8]) {
         Subject::Book => book_line(bytes, out),
         Subject::Service => service_line(bytes, Mode::Dpv0, out),
         Subject::Dpv1Service => service_line(bytes, Mode::Dpv1, out),
+        Subject::Download => download_line(bytes),
         Subject::Fields(writer) => fields_line(writer, bytes, out),
     }
 }

@@ -3,8 +3,9 @@
 
 #![forbid(unsafe_code)]
 
-use rabtunex_tests::reference::{service_telegram_text, show_text, simulate_text, text};
-use rabtunex_tests::samples::{self, service_telegrams, services, writers, Group};
+use rabtunex_tests::reference::{download_text, service_telegram_text};
+use rabtunex_tests::reference::{show_text, simulate_text, text};
+use rabtunex_tests::samples::{self, download_lines, service_telegrams, services, writers, Group};
 use std::io::{self, Read, Write};
 use std::process::ExitCode;
 
@@ -70,6 +71,10 @@ fn make_vectors() -> String {
         let announcement = format!("={}", service_telegram_text::letter(mode));
         vectors += &announced(&announcement, service_telegram_text::name(mode), &group);
     }
+    for group in download_lines::groups() {
+        let announcement = format!("={}", download_text::LETTER);
+        vectors += &announced(&announcement, download_text::NAME, &group);
+    }
     vectors
 }
 
@@ -113,13 +118,21 @@ mod tests {
                 expected += &(service_telegram_text::line(&bytes, mode) + "\n");
             }
         }
+        for bytes in download_lines::groups()
+            .into_iter()
+            .flat_map(|group| group.inputs)
+        {
+            expected += &(download_text::line(&bytes) + "\n");
+        }
         assert_eq!(answers, expected);
     }
 
+    /// Telegrams, the data of services and fields for writers take just under
+    /// 200,000 bytes, and downloads some 5,000 more.
     #[test]
     fn vectors_stay_small() {
         let size = make_vectors().len();
-        assert!(size < 200_000, "{size} bytes");
+        assert!(size < 210_000, "{size} bytes");
     }
 
     #[test]

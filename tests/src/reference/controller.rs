@@ -122,6 +122,22 @@ impl Ending {
             Ending::Strange(_) => "strange reply",
         }
     }
+
+    /// Kind, template, code 1 and code 2 as the C interface has them
+    /// (`include/rabtunex.h`), each 0 where the ending has none.
+    pub fn fields(self) -> [u8; 4] {
+        match self {
+            Ending::Done => [1, 0, 0, 0],
+            Ending::NoOpening => [2, 0, 0, 0],
+            Ending::NoAnswer(k) => [3, k, 0, 0],
+            Ending::NotReady(k) => [4, k, 0, 0],
+            Ending::Refused {
+                template,
+                codes: [code1, code2],
+            } => [5, template, code1, code2],
+            Ending::Strange(k) => [6, k, 0, 0],
+        }
+    }
 }
 
 /// What a controller does next.

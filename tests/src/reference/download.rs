@@ -2,7 +2,7 @@
 //! that may lose what goes over it.
 
 use super::controller::{self, Ending, Move, Settings, State};
-use super::printer::{self, Printer, Slots};
+use super::printer::{self, Printer, Slots, BUFFER_ROOM};
 use super::{book, refusal};
 
 /// An entry of the line: request and reply go through.
@@ -11,6 +11,9 @@ pub const THROUGH: u8 = 0;
 pub const REQUEST_LOST: u8 = 1;
 /// An entry of the line: the reply is lost.
 pub const REPLY_LOST: u8 = 2;
+
+/// A diagnosis for downloads of whose opening no more is told than that one came.
+pub(super) const ANY_DIAGNOSIS: [u8; 6] = [0, 4, 0, 255, 0, 0];
 
 /// What no step may refuse once a download has begun.
 const JUDGED: &str = "all was judged before the first sending";
@@ -97,6 +100,22 @@ pub fn run(
     seen: impl FnMut(&Sending<'_>),
 ) -> Result<Outcome, u8> {
     run_along(&mut Losses, plan, printer, lent, seen)
+}
+
+/// As `run`, to a printer without templates; its slots afterwards too.
+pub(super) fn run_to_empty(
+    plan: &Plan<'_>,
+    printer: Printer,
+    seen: impl FnMut(&Sending<'_>),
+) -> Result<(Outcome, Slots), u8> {
+    let mut slots = Slots::empty();
+    let lent = Lent {
+        slots: &mut slots,
+        request: &mut [0; BUFFER_ROOM],
+        reply: &mut [0; BUFFER_ROOM],
+    };
+    let outcome = run(plan, printer, lent, seen)?;
+    Ok((outcome, slots))
 }
 
 /// As `run`, along any line.

@@ -8,6 +8,7 @@ pub mod control;
 pub mod controller;
 pub mod diagnosis;
 pub mod download;
+pub mod download_text;
 pub mod fields;
 pub mod parameters;
 pub mod printer;

@@ -125,6 +125,24 @@ pub struct Slots {
     pub bodies: [[u8; SLOT_ROOM]; SLOTS],
 }
 
+impl Slots {
+    /// None of them has a template.
+    pub fn empty() -> Self {
+        Slots {
+            lengths: [0; SLOTS],
+            bodies: [[0; SLOT_ROOM]; SLOTS],
+        }
+    }
+
+    /// The slots that have a template, each with it.
+    pub fn templates(&self) -> impl Iterator<Item = (usize, &[u8])> {
+        let slots = self.lengths.iter().zip(&self.bodies);
+        let templates = slots.map(|(length, body)| &body[..usize::from(*length)]);
+        let templates = templates.enumerate();
+        templates.filter(|(_, template)| !template.is_empty())
+    }
+}
+
 /// What the printer sends back.
 enum Reply<'a> {
     Confirmation,

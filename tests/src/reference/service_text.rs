@@ -174,7 +174,12 @@ pub(super) fn again(outcome: Result<Vec<u8>, u8>) -> String {
 
 /// The bytes that a writer stored.
 pub(super) fn stored_text(bytes: &[u8]) -> String {
-    let mut text = String::from(" =");
+    format!(" ={}", hex_text(bytes))
+}
+
+/// Each byte after a space.
+pub(super) fn hex_text(bytes: &[u8]) -> String {
+    let mut text = String::new();
     for byte in bytes {
         write!(text, " {byte:02x}").expect("a string takes any text");
     }

@@ -4,17 +4,14 @@
 
 use super::acyclic::{Answer, Failed};
 use super::controller::{Ending, Heard, Settings};
-use super::download::{self, Lent, Outcome, Plan, Sending, REPLY_LOST, REQUEST_LOST};
-use super::printer::{Printer, Slots, BUFFER_ROOM, SLOTS, SLOT_ROOM};
+use super::download::{self, Outcome, Plan, Sending, ANY_DIAGNOSIS, REPLY_LOST, REQUEST_LOST};
+use super::printer::{Printer, Slots};
 use super::refusal;
 use super::service::Content;
 use super::telegram::{self, Telegram};
 
 /// The most bytes that are read.
 const MOST_READ: usize = 8192;
-
-/// Of the printer's diagnosis only that it came is printed: any will do.
-const DIAGNOSIS: [u8; 6] = [0, 4, 0, 255, 0, 0];
 
 /// What the program is given.
 struct Input<'a> {
@@ -58,20 +55,11 @@ impl<'a> Input<'a> {
             book: self.book,
             line: self.line,
             not_yet: self.not_yet,
-            diagnosis: &DIAGNOSIS,
-        };
-        let mut slots = Slots {
-            lengths: [0; SLOTS],
-            bodies: [[0; SLOT_ROOM]; SLOTS],
-        };
-        let lent = Lent {
-            slots: &mut slots,
-            request: &mut [0; BUFFER_ROOM],
-            reply: &mut [0; BUFFER_ROOM],
+            diagnosis: &ANY_DIAGNOSIS,
         };
         let mut lines = Vec::new();
         let printer = Printer::fresh(self.settings.printer, self.boarding);
-        let outcome = download::run(&plan, printer, lent, |sending| {
+        let (outcome, slots) = download::run_to_empty(&plan, printer, |sending| {
             lines.push(sending_line(lines.len() + 1, sending, &self.settings));
         })?;
         lines.push(ending_line(&outcome));
@@ -151,9 +139,8 @@ fn ending_line(outcome: &Outcome) -> String {
 
 /// A line for each slot that has a template: none had one before.
 fn new_slot_lines(slots: &Slots) -> impl Iterator<Item = String> + '_ {
-    let new = slots.lengths.iter().enumerate();
-    let new = new.filter(|(_, length)| **length > 0);
-    new.map(|(slot, length)| format!("new slot {slot} length {length}"))
+    let new = slots.templates();
+    new.map(|(slot, body)| format!("new slot {slot} length {}", body.len()))
 }
 
 #[cfg(test)]
@@ -240,7 +227,7 @@ new slot 7 length 3
         let data = |saps, data: &[u8]| controllers::data_reply(&settings, saps, data);
         for (reply, text) in [
             (vec![0xE5], "SC"),
-            (data([62, 60], &DIAGNOSIS), "diagnosis"),
+            (data([62, 60], &ANY_DIAGNOSIS), "diagnosis"),
             (
                 data([51, 51], &[0x5F, 1, 7, 3]),
                 "5F slot 1 index 7 length 3",
@@ -302,8 +289,8 @@ new slot 7 length 3
     fn samples_bring_every_ending_and_every_refusal() {
         let random = &mut Random::new(2);
         let mut endings = BTreeSet::new();
-        for (_, make) in sample::KINDS {
-            endings.extend((0..500).map(|_| ending_words(&lines(&make(random)))));
+        for kind in sample::kinds() {
+            endings.extend((0..500).map(|_| ending_words(&lines(&kind.sample(random)))));
         }
         assert_eq!(endings, sample::ENDINGS.map(String::from).into());
     }

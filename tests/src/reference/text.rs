@@ -4,12 +4,14 @@
 //! In a vectors text every line ends with a newline. A line that starts with
 //! `#` is a comment. One that starts with `=` says by one letter what the lines
 //! after it are: `t` for telegrams, which those before any such line are too,
-//! `s` and `u` for telegrams to read as services in DPV0 and in DPV1, and a
-//! service's own letter for its data. One that starts with `>` says by a
-//! writer's letter that they are fields for that writer. Any other line is the
-//! bytes of one telegram, of one service's data or of one writing, two hex digits
-//! for each byte with single spaces between them, and an empty line is no bytes.
+//! `s` and `u` for telegrams to read as services in DPV0 and in DPV1, `l` for
+//! whole downloads, and a service's own letter for its data. One that starts with
+//! `>` says by a writer's letter that they are fields for that writer. Any other
+//! line is the bytes of one telegram, of one service's data, of one download or of
+//! one writing, two hex digits for each byte with single spaces between them, and
+//! an empty line is no bytes.
 
+use super::download_text;
 use super::fields;
 use super::parameters::Mode;
 use super::service_telegram_text;
@@ -68,6 +70,7 @@ pub fn numbers(bytes: &[u8]) -> String {
 enum Kind {
     Telegrams,
     ServiceTelegrams(Mode),
+    Downloads,
     DataOf(Service),
     FieldsFor(Writer),
 }
@@ -78,6 +81,7 @@ impl Kind {
     fn announced_by(line: &str) -> Option<Self> {
         match line.split_at_checked(1)? {
             ("=", TELEGRAMS) => Some(Kind::Telegrams),
+            ("=", download_text::LETTER) => Some(Kind::Downloads),
             ("=", letter) => match service_telegram_text::mode_of_letter(letter) {
                 Some(mode) => Some(Kind::ServiceTelegrams(mode)),
                 None => Service::of_letter(letter).map(Kind::DataOf),
@@ -91,6 +95,7 @@ impl Kind {
         match self {
             Kind::Telegrams => numbers(bytes),
             Kind::ServiceTelegrams(mode) => service_telegram_text::line(bytes, mode),
+            Kind::Downloads => download_text::line(bytes),
             Kind::DataOf(service) => service.answer(bytes),
             Kind::FieldsFor(writer) => writer.answer(bytes),
         }
@@ -233,6 +238,17 @@ mod tests {
             assert_eq!(answers(&vectors), Ok(answer));
         }
         assert_eq!(answers("=d\n=t\n>d\n").as_deref(), Ok(""));
+    }
+
+    #[test]
+    fn downloads_have_a_letter_of_their_own() {
+        let letter = download_text::LETTER;
+        let vectors = format!("={letter}\n07 02 01 02 08 00 00 00 01 07 01 41\n\n=t\nE5\n");
+        let expected = "0 2 0 0 0 1 0\nmalformed\n0 0 0 0 0 255 255 0 0\n";
+        assert_eq!(answers(&vectors).as_deref(), Ok(expected));
+        assert_eq!(Service::of_letter(letter), None);
+        assert_eq!(service_telegram_text::mode_of_letter(letter), None);
+        assert_eq!(answers(&format!(">{letter}\n")), Err(1));
     }
 
     #[test]

@@ -170,7 +170,8 @@ pub(super) fn written(room: u8, write: impl FnOnce(&mut [u8]) -> Result<usize, u
     }
 }
 
-fn flag(byte: u8) -> Option<bool> {
+/// What a byte that is 0 or 1 says.
+pub(super) fn flag(byte: u8) -> Option<bool> {
     match byte {
         0 => Some(false),
         1 => Some(true),
@@ -307,7 +308,7 @@ fn book_line(bytes: &[u8]) -> Option<String> {
 }
 
 /// As many bytes as the first byte says, and what follows them.
-fn split_counted(bytes: &[u8]) -> Option<(&[u8], &[u8])> {
+pub(super) fn split_counted(bytes: &[u8]) -> Option<(&[u8], &[u8])> {
     let (count, rest) = bytes.split_first()?;
     rest.split_at_checked(usize::from(*count))
 }

@@ -7,7 +7,7 @@ use super::printers::{any_slots, any_state, MASTERS};
 use crate::random::Random;
 use crate::reference::controller::Settings;
 use crate::reference::download::{Plan, REPLY_LOST, REQUEST_LOST, THROUGH};
-use crate::reference::printer::{Printer, Slots, BUFFER_ROOM, SLOTS, SLOT_ROOM};
+use crate::reference::printer::{Printer, Slots, BUFFER_ROOM};
 
 /// The highest address of a station.
 const LAST_STATION: usize = 126;
@@ -92,10 +92,7 @@ pub fn worked() -> Scene {
         not_yet: vec![1],
         diagnosis: diagnosis::WORKED_ROW.to_vec(),
         printer: Printer::fresh(7, false),
-        slots: Slots {
-            lengths: [0; SLOTS],
-            bodies: [[0; SLOT_ROOM]; SLOTS],
-        },
+        slots: Slots::empty(),
         reply: [0; BUFFER_ROOM],
     }
 }
@@ -128,6 +125,11 @@ pub fn worked_on_every_line() -> impl Iterator<Item = Scene> {
 pub fn any_scene(random: &mut Random) -> Scene {
     let settings = any_settings(random);
     let book = books::any_valid(random);
+    any_scene_of(random, settings, book)
+}
+
+/// Any such download of this book with these settings.
+pub fn any_scene_of(random: &mut Random, settings: Settings, book: Vec<u8>) -> Scene {
     let address = match random.below(16) {
         0 => random.between(0, LAST_STATION) as u8,
         _ => settings.printer,
@@ -145,6 +147,29 @@ pub fn any_scene(random: &mut Random) -> Scene {
         reply,
     }
 }
+
+/// Makes one download.
+pub type Make = fn(&mut Random) -> Scene;
+
+/// Downloads with settings, a book or a line that is wrong, but for a book that
+/// the damage left right.
+pub const WRONG: [(&str, Make); 3] = [
+    ("settings wrong", |random| Scene {
+        settings: any_wrong_settings(random),
+        ..any_scene(random)
+    }),
+    ("book damaged", |random| Scene {
+        book: books::damaged(random),
+        ..any_scene(random)
+    }),
+    ("line entry wrong", |random| {
+        let mut scene = any_scene(random);
+        let entry = random.between(usize::from(REPLY_LOST) + 1, 255) as u8;
+        let place = random.between(0, scene.line.len());
+        scene.line.insert(place, entry);
+        scene
+    }),
+];
 
 /// The most sendings that a download of so many templates can take.
 pub fn bound(settings: &Settings, count: usize) -> usize {

@@ -1,10 +1,11 @@
 //! Inputs of the simulate program (`docs/SIMULATE.md`): right ones, refused ones
 //! and ones that are cut.
 
-use super::downloads::{any_scene, any_wrong_settings, worked, Scene};
-use super::{books, cut_short};
+use super::cut_short;
+use super::downloads::{any_scene, worked, Scene, WRONG};
+use super::services::Source;
 use crate::random::Random;
-use crate::reference::download::{REPLY_LOST, THROUGH};
+use crate::reference::download::THROUGH;
 
 /// The most bytes that are read.
 const MOST_READ: usize = 8192;
@@ -50,39 +51,23 @@ pub fn at_the_limit() -> [Vec<u8>; 2] {
     })
 }
 
-/// Makes one input.
-pub type Make = fn(&mut Random) -> Vec<u8>;
-
 /// The kinds of input.
-pub const KINDS: [(&str, Make); 6] = [
-    ("right", any_right),
-    ("settings wrong", |random| {
-        let mut scene = any_scene(random);
-        scene.settings = any_wrong_settings(random);
-        input(&scene)
-    }),
-    ("boarding above 1", |random| {
-        let mut bytes = any_right(random);
-        bytes[BOARDING] = random.between(2, 255) as u8;
-        bytes
-    }),
-    ("book damaged", |random| {
-        let mut scene = any_scene(random);
-        scene.book = books::damaged(random);
-        input(&scene)
-    }),
-    ("line entry wrong", |random| {
-        let mut scene = any_scene(random);
-        let entry = random.between(usize::from(REPLY_LOST) + 1, 255) as u8;
-        let place = random.between(0, scene.line.len());
-        scene.line.insert(place, entry);
-        input(&scene)
-    }),
-    ("cut", |random| {
-        let bytes = any_right(random);
-        cut_short(random, &bytes)
-    }),
-];
+pub fn kinds() -> Vec<Source> {
+    let mut kinds = vec![
+        Source::new("right", any_right),
+        Source::new("boarding above 1", |random| {
+            let mut bytes = any_right(random);
+            bytes[BOARDING] = random.between(2, 255) as u8;
+            bytes
+        }),
+        Source::new("cut", |random| {
+            let bytes = any_right(random);
+            cut_short(random, &bytes)
+        }),
+    ];
+    kinds.extend(WRONG.map(|(name, make)| Source::new(name, move |random| input(&make(random)))));
+    kinds
+}
 
 /// The first words of all endings and refusals that they come to.
 pub const ENDINGS: [&str; 9] = [

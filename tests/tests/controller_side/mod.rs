@@ -1,7 +1,7 @@
 //! The controller's end of the line through the C interface
-//! (`include/rabtunex.h`): settings and endings as bytes, and the library's step.
+//! (`include/rabtunex.h`): settings as bytes, and the library's step.
 
-use rabtunex_tests::reference::controller::{Ending, Settings};
+use rabtunex_tests::reference::controller::Settings;
 
 /// The bytes of a state.
 pub type State = [u8; 5];
@@ -20,21 +20,6 @@ pub fn settings_of(settings: &Settings) -> [u8; 4] {
         controller,
     } = *settings;
     [printer, controller, repeats, polls]
-}
-
-/// The bytes of an ending.
-pub fn standing_of(ending: Ending) -> Standing {
-    match ending {
-        Ending::Done => [1, 0, 0, 0],
-        Ending::NoOpening => [2, 0, 0, 0],
-        Ending::NoAnswer(k) => [3, k, 0, 0],
-        Ending::NotReady(k) => [4, k, 0, 0],
-        Ending::Refused {
-            template,
-            codes: [code1, code2],
-        } => [5, template, code1, code2],
-        Ending::Strange(k) => [6, k, 0, 0],
-    }
 }
 
 extern "C" {
