@@ -12,7 +12,7 @@ mod vectors;
 use rabtunex_tests::random::Random;
 use rabtunex_tests::reference::download_text::LETTER;
 use rabtunex_tests::samples::download_lines::{self as samples, OUTCOMES};
-use rabtunex_tests::samples::downloads::worked;
+use rabtunex_tests::samples::downloads::{worked, worked_while_boarding};
 use tally::Tally;
 
 /// How many downloads there are of each kind.
@@ -26,7 +26,7 @@ fn answers(lines: &[Vec<u8>]) -> String {
 /// Document 01's download, and the same while boarding.
 #[test]
 fn worked_downloads_are_answered_alike() {
-    let scenes = [worked(), samples::worked_while_boarding()];
+    let scenes = [worked(), worked_while_boarding()];
     let expected = "0 1 0 0 0 6 1 | 7 3 41 42 43\n0 5 1 182 0 6 1\n";
     assert_eq!(
         answers(&scenes.map(|scene| samples::bytes(&scene))),

@@ -12,7 +12,7 @@ mod tally;
 use rabtunex_tests::random::Random;
 use rabtunex_tests::reference::parameters::Mode;
 use rabtunex_tests::reference::{show_text, simulate_text, text};
-use rabtunex_tests::samples::downloads::worked;
+use rabtunex_tests::samples::downloads::{worked, worked_while_boarding};
 use rabtunex_tests::samples::{self, service_telegrams, shown as words, simulated, Saps};
 use repository::root;
 use std::fs;
@@ -216,7 +216,7 @@ fn worked_downloads_are_simulated() {
     });
     assert!(codes.eq(["6D", "5C", "5C", "7C", "5C", "5C"]), "{done}");
     assert!(done.ends_with("done after 6 sendings\nnew slot 7 length 3\n"));
-    let refused = check_simulated("boarding", &simulated::worked_while_boarding());
+    let refused = check_simulated("boarding", &simulated::input(&worked_while_boarding()));
     assert!(refused.ends_with("refused at 1 codes B6 00 after 6 sendings\n"));
 }
 

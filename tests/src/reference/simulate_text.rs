@@ -147,7 +147,7 @@ fn new_slot_lines(slots: &Slots) -> impl Iterator<Item = String> + '_ {
 mod tests {
     use super::*;
     use crate::random::Random;
-    use crate::samples::downloads::{any_wrong_settings, worked};
+    use crate::samples::downloads::{any_wrong_settings, worked, worked_while_boarding};
     use crate::samples::{books, controllers, simulated as sample};
     use std::collections::BTreeSet;
 
@@ -172,7 +172,7 @@ new slot 7 length 3
 
     #[test]
     fn boarding_printer_refuses_slot_seven() {
-        let text = lines(&sample::worked_while_boarding());
+        let text = lines(&sample::input(&worked_while_boarding()));
         let last: Vec<&str> = text.lines().skip(5).collect();
         let expected = [
             "sending 6 fc 5C through, DF codes B6 00",

@@ -1,7 +1,8 @@
 //! Lines of the vectors that are whole downloads, to a fresh printer without
 //! templates: right ones, refused ones and ones that make no download.
 
-use super::downloads::{any_scene, any_scene_of, any_settings, worked, Make, Scene, WRONG};
+use super::downloads::{any_scene, any_scene_of, any_settings, Make, Scene, WRONG};
+use super::downloads::{worked, worked_while_boarding};
 use super::services::Source;
 use super::{books, cut_short, group, Group};
 use crate::random::Random;
@@ -57,13 +58,6 @@ pub fn bytes(scene: &Scene) -> Vec<u8> {
     }
     bytes.extend(&scene.book);
     bytes
-}
-
-/// Document 01's download to a printer that is boarding.
-pub fn worked_while_boarding() -> Scene {
-    let mut scene = worked();
-    scene.printer.boarding = true;
-    scene
 }
 
 /// The longest download: as many entries and "not yet" numbers as a line can
@@ -150,8 +144,7 @@ fn to_another() -> Scene {
 /// Downloads of two templates, R 1 and P 2, that end in every way and place; the
 /// second template is for slot seven.
 fn every_ending() -> Vec<Scene> {
-    const LOST: [u8; 2] = [REQUEST_LOST, REPLY_LOST];
-    let lost_at = |place: usize, lost: &[u8]| [&vec![THROUGH; place], lost].concat();
+    let lost_behind = |count| [vec![THROUGH; count], vec![REQUEST_LOST, REPLY_LOST]].concat();
     let mut courses = vec![
         (vec![], vec![]),
         (vec![], vec![1, 1]),
@@ -161,7 +154,7 @@ fn every_ending() -> Vec<Scene> {
         (vec![REPLY_LOST], vec![]),
     ];
     // The opening, then a write and a poll for each template.
-    courses.extend((1..=4).map(|place| (lost_at(place, &LOST), vec![])));
+    courses.extend((1..=4).map(|count| (lost_behind(count), vec![])));
     let mut scenes: Vec<Scene> = courses
         .into_iter()
         .map(|(line, not_yet)| Scene {

@@ -97,6 +97,13 @@ pub fn worked() -> Scene {
     }
 }
 
+/// Document 01's download to a printer that is boarding.
+pub fn worked_while_boarding() -> Scene {
+    let mut scene = worked();
+    scene.printer.boarding = true;
+    scene
+}
+
 /// Document 01's download along every line that is as long as its bound, with
 /// each number of "not yet" answers from 0 to 3, boarding and not.
 pub fn worked_on_every_line() -> impl Iterator<Item = Scene> {

@@ -32,13 +32,6 @@ pub fn input(scene: &Scene) -> Vec<u8> {
     bytes
 }
 
-/// Document 01's download to a printer that is boarding.
-pub fn worked_while_boarding() -> Vec<u8> {
-    let mut scene = worked();
-    scene.printer.boarding = true;
-    input(&scene)
-}
-
 /// Document 01's download with a line that is just read to its end, and with one
 /// that has an entry more.
 pub fn at_the_limit() -> [Vec<u8>; 2] {
