@@ -28,9 +28,9 @@ use Rattle.service.specs.declared.reading.Way.the-variants as way
 use Rattle.service.specs.declared.reading.Reading.{Reading}
 use Rattle.service.specs.declared.reading.Reading.the-variants as reading
 use Rattle.capi.specs.Telegram.{formatNumber, kindOf}
-use Rattle.fields.specs.Service.{serviceNumber, placesOf, contentBytes, contentIn}
-use Rattle.fields.specs.declared.content_fields.Named.{Named}
-use Rattle.fields.specs.declared.content_fields.Named.the-variants as named
+use Rattle.service_fields.specs.Service.{serviceNumber, placesOf, contentBytes, contentIn}
+use Rattle.service_fields.specs.declared.Named.{Named}
+use Rattle.service_fields.specs.declared.Named.the-variants as named
 use Rattle.capi.specs.declared.telegram.Kind.{Kind}
 use Rattle.capi.specs.declared.telegram.Kind.the-variants as kind
 

@@ -29,7 +29,7 @@ fn put_fields(
 )
     ensures { λ _. ⌜ now (fields .exit) ≡ fieldsOf format header way content start len ⌝ }
 {
-    let own = fields::own_of(content);
+    let own = service_fields::own_of(content);
     *fields = [
         own.0,
         way_number(way),

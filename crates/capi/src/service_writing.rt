@@ -10,9 +10,9 @@ use crate::telegram::kind_of;
 use access::Route;
 use access::Service;
 use fdl::Format;
-use fields::Named;
 use fields::store_count;
 use octets::Written;
+use service_fields::Named;
 
 // The refusal of a DPV1 number that the way does not have: what the telegram's fields say comes first.
 // No PDU is longer than 246 bytes: that test keeps the sum within its bits.
@@ -86,7 +86,7 @@ pub extern "C" fn rabtunex_write_service(
         Kind::Confirmation => 12,
         Kind::Token => 12,
         Kind::Telegram(format) => {
-            let named = fields::content_in(fields, version);
+            let named = service_fields::content_in(fields, version);
             store_count(write_named(named, format, fields, part, out), stored)
         }
         Kind::Unknown => 12,

@@ -1,3 +1,2 @@
 pub mod Dpv1
-pub mod Service
 pub mod Outcome

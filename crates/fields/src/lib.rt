@@ -1,13 +1,8 @@
-// Fields as bytes, in the layout that the C interface has of DPV1 calls and answers and of services, and what
-// every writer of it answers.
-mod content_fields;
+// The fields of DPV1 calls and answers as bytes, in the layout of the C interface, and what every writer of it
+// answers.
 mod dpv1;
 mod outcome;
 
-pub use content_fields::Named;
-pub use content_fields::Own;
-pub use content_fields::content_in;
-pub use content_fields::own_of;
 pub use dpv1::Case;
 pub use dpv1::Four;
 pub use dpv1::answer_four;

@@ -3,7 +3,7 @@ use mathlib.Core.Path.{ap, ap₂, _∙_}
 use mathlib.Core.List.{List, _∷_}
 use Prim.Native.Nat.{ℕ}
 use lib.ListN.{getD, drop}
-use Rattle.fields.specs.Service.{ownBytes}
+use Rattle.service_fields.specs.Service.{ownBytes}
 use borrow.Author.Needs.{needs}
 use Rattle.capi.proofs.service_reading.put_fields.Statement.{statement}
 use Rattle.capi.proofs.service_reading.put_fields.Tie as tie

@@ -7,7 +7,7 @@ use borrow.Author.Tests.{lt-ltb, le-ltb}
 use Rattle.octets.specs.Front.{Verdict, fault, answerBy, heldBy, refused}
 use Rattle.fields.specs.Outcome.{statusOf, countAfter}
 use Rattle.capi.specs.Service.{kindVerdict, kindBytes, verdictIn, bytesIn}
-use Rattle.fields.specs.Service.{contentIn}
+use Rattle.service_fields.specs.Service.{contentIn}
 use Rattle.capi.specs.declared.telegram.Kind.{Kind}
 use borrow.Author.Needs.{needs}
 use Rattle.capi.proofs.service_writing.rabtunex_write_service.Statement.{statement}

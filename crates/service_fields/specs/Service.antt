@@ -1,0 +1,157 @@
+-- Services by their own fields: the service's number, which is its access point at the slave, and ten places that hold the fixed bytes of
+-- its data in their order, and 0 behind them. Fields that are to be written are eighteen: FC is the sixth, and the service's own are
+-- the last ten.
+use Prim.Native.Nat.{ℕ}
+use mathlib.Core.Bool.{Bool, true, false, not}
+use mathlib.Core.List.{List, [], _∷_, _++_}
+use lib.ListN.{getD, take, replicate}
+use lib.Dec.{eqb}
+use Rattle.octets.specs.Choice.{pick}
+use Rattle.octets.specs.Number.{numberOf}
+use Rattle.function_code.specs.Code.{classOf}
+use Rattle.function_code.specs.declared.code.Class.{Class}
+use Rattle.function_code.specs.declared.code.Class.the-variants as class
+use Rattle.control.specs.Address as address
+use Rattle.control.specs.Command as command
+use Rattle.control.specs.declared.address.AddressChange.{AddressChange}
+use Rattle.control.specs.declared.command.GlobalCommand.{GlobalCommand}
+use Rattle.diagnosis.specs.Writing as diagnosis
+use Rattle.diagnosis.specs.declared.reading.Header as diagnosis-type
+use Rattle.parameters.specs.Writing as parameters
+use Rattle.parameters.specs.declared.fields.Extension.{Extension}
+use Rattle.parameters.specs.declared.fields.Extension.the-variants as extension
+use Rattle.parameters.specs.declared.fields.Parameters.{Parameters}
+use Rattle.access.specs.declared.table.Service.{Service}
+use Rattle.access.specs.declared.table.Service.the-variants as service
+use Rattle.content.specs.Fields.{serviceOf}
+use Rattle.content.specs.declared.fields.Content.{Content}
+use Rattle.content.specs.declared.fields.Content.the-variants as content
+use Rattle.fields.specs.Dpv1.{callFour, answerFour, callNamed, answerNamed}
+use Rattle.fields.specs.declared.dpv1.Case.{Case}
+use Rattle.fields.specs.declared.dpv1.Case.the-variants as case
+use Rattle.service_fields.specs.declared.Own.{Own}
+use Rattle.service_fields.specs.declared.Named.{Named}
+use Rattle.service_fields.specs.declared.Named.the-variants as named
+
+-- the access point at the slave; Data_Exchange has none
+abbrev pub serviceNumber : Service → ℕ
+serviceNumber service.DataExchange = 0
+serviceNumber service.Dpv1 = 51
+serviceNumber service.ExtUserPrm = 53
+serviceNumber service.SetSlaveAdr = 55
+serviceNumber service.RdInp = 56
+serviceNumber service.RdOutp = 57
+serviceNumber service.GlobalControl = 58
+serviceNumber service.GetCfg = 59
+serviceNumber service.SlaveDiag = 60
+serviceNumber service.SetPrm = 61
+serviceNumber service.ChkCfg = 62
+
+-- ---- the service's own fields
+
+-- so many places: bytes, and 0 behind them
+abbrev pub placesOf : (count : ℕ) → List ℕ → List ℕ
+placesOf count s = take count (s ++ replicate count 0)
+
+-- the fixed bytes; of DPV1 the four fields that its calls and answers have by themselves
+abbrev pub contentBytes : Content → List ℕ
+contentBytes content.DataExchange = []
+contentBytes (content.Dpv1Call c) = callFour c
+contentBytes (content.Dpv1Answer x) = answerFour x
+contentBytes content.ExtUserPrm = []
+contentBytes (content.SetSlaveAdr f) = address.fixedBytes f
+contentBytes content.RdInp = []
+contentBytes content.RdOutp = []
+contentBytes (content.GlobalControl f) = command.fixedBytes f
+contentBytes content.GetCfg = []
+contentBytes content.SlaveDiagCall = []
+contentBytes (content.SlaveDiag h) = diagnosis.headerBytes h
+contentBytes (content.SetPrm f) = parameters.frontBytes f
+contentBytes content.ChkCfg = []
+
+-- the service's number, and its own fields
+abbrev pub ownFields : Content → List ℕ
+ownFields c = serviceNumber (serviceOf c) ∷ placesOf 10 (contentBytes c)
+
+abbrev pub ownBytes : Own → List ℕ
+ownBytes o = o .0 ∷ o .1 ∷ o .2 ∷ o .3 ∷ o .4 ∷ o .5 ∷ o .6 ∷ o .7 ∷ o .8 ∷ o .9 ∷ o .10 ∷ []
+
+-- ---- writing: the content that the fields name
+
+-- the way is the function code's
+abbrev pub isAnswer : Class → Bool
+isAnswer class.Opening = false
+isAnswer class.Counted = false
+isAnswer class.Uncounted = false
+isAnswer class.Bare = true
+isAnswer class.Data = true
+isAnswer class.Reserved = false
+
+abbrev pub namedBy : Case → Named
+namedBy (case.Call c) = named.Content (content.Dpv1Call c)
+namedBy (case.Answer x) = named.Content (content.Dpv1Answer x)
+namedBy case.Unknown = named.Reserved
+
+unfoldable pub dpv1In : (fields : List ℕ) → Named
+dpv1In fields =
+    pick (isAnswer (classOf (getD fields 5 0)))
+    (namedBy (answerNamed (getD fields 8 0) (getD fields 9 0) (getD fields 10 0) (getD fields 11 0)))
+    (namedBy (callNamed (getD fields 8 0) (getD fields 9 0) (getD fields 10 0) (getD fields 11 0)))
+
+-- the last byte is not 0 where further changes are not allowed
+abbrev pub addressIn : (fields : List ℕ) → AddressChange
+addressIn fields =
+    record {
+      address = getD fields 8 0;
+      ident = numberOf (getD fields 9 0 ∷ getD fields 10 0 ∷ []);
+      locked = not (eqb (getD fields 11 0) 0);
+    }
+
+abbrev pub commandIn : (fields : List ℕ) → GlobalCommand
+commandIn fields = record { command = getD fields 8 0; groups = getD fields 9 0 }
+
+abbrev pub headerIn : (fields : List ℕ) → diagnosis-type.Header
+headerIn fields =
+    record {
+      status1 = getD fields 8 0;
+      status2 = getD fields 9 0;
+      status3 = getD fields 10 0;
+      master = getD fields 11 0;
+      ident = numberOf (getD fields 12 0 ∷ getD fields 13 0 ∷ []);
+    }
+
+-- a call of Slave_Diag has no fields
+unfoldable pub diagnosisIn : (fields : List ℕ) → Content
+diagnosisIn fields = pick (isAnswer (classOf (getD fields 5 0))) (content.SlaveDiag (headerIn fields)) content.SlaveDiagCall
+
+abbrev pub extensionIn : (version a b c : ℕ) → Extension
+extensionIn version a b c = pick (eqb version 0) extension.Dpv0 (extension.Dpv1 a b c)
+
+unfoldable pub parametersIn : (fields : List ℕ) (version : ℕ) → Parameters
+parametersIn fields version =
+    record {
+      flags = getD fields 8 0;
+      factor1 = getD fields 9 0;
+      factor2 = getD fields 10 0;
+      response = record { 0 = getD fields 11 0 };
+      ident = numberOf (getD fields 12 0 ∷ getD fields 13 0 ∷ []);
+      groups = getD fields 14 0;
+      extension = extensionIn version (getD fields 15 0) (getD fields 16 0) (getD fields 17 0);
+    }
+
+unfoldable pub contentBy : (service : ℕ) (fields : List ℕ) (version : ℕ) → Named
+contentBy n fields version =
+    pick (eqb n 0) (named.Content content.DataExchange)
+    (pick (eqb n 51) (dpv1In fields)
+    (pick (eqb n 53) (named.Content content.ExtUserPrm)
+    (pick (eqb n 55) (named.Content (content.SetSlaveAdr (addressIn fields)))
+    (pick (eqb n 56) (named.Content content.RdInp)
+    (pick (eqb n 57) (named.Content content.RdOutp)
+    (pick (eqb n 58) (named.Content (content.GlobalControl (commandIn fields)))
+    (pick (eqb n 59) (named.Content content.GetCfg)
+    (pick (eqb n 60) (named.Content (diagnosisIn fields))
+    (pick (eqb n 61) (named.Content (content.SetPrm (parametersIn fields version)))
+    (pick (eqb n 62) (named.Content content.ChkCfg) named.Nothing))))))))))
+
+abbrev pub contentIn : (fields : List ℕ) (version : ℕ) → Named
+contentIn fields version = contentBy (getD fields 0 0) fields version
