@@ -45,7 +45,7 @@ fn write_named(
     ensures bytes { λ _. ⌜ now (out .exit) ≡ heldBy (namedVerdict named format (now (fields .entry)) (now (part .entry))) (namedBytes named format (now (fields .entry)) (now (part .entry))) (now (out .entry)) ⌝ }
 {
     match named {
-        Named::Content(content) => service::write(
+        Named::Content(content) => service_writer::write(
             format,
             fields[3],
             fields[4],

@@ -66,7 +66,7 @@ pub extern "C" fn rabtunex_read_telegram(bytes: &[u8], fields: &mut [u8; 8]) -> 
     ensures refusal { λ r. ⌜ r ≡ refusalOf (readOf (now (bytes .entry))) ⌝ }
     ensures fields { λ _. ⌜ now (fields .exit) ≡ fieldsAfter (readOf (now (bytes .entry))) (now (fields .entry)) ⌝ }
 {
-    let reading = fdl::read(bytes);
+    let reading = fdl_reader::read(bytes);
     match reading {
         Reading::Confirmation => {
             let none = Header {

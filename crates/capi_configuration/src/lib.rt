@@ -16,7 +16,7 @@ pub extern "C" fn rabtunex_configuration_offsets(
     ensures outputs { λ _. ⌜ now (outputs .exit) ≡ outputsAfter (now (bytes .entry)) (now (inputs .entry)) (now (outputs .entry)) ⌝ }
     ensures totals { λ _. ⌜ now (totals .exit) ≡ totalsAfter (offsetsOf (now (bytes .entry)) (now (inputs .entry)) (now (outputs .entry))) (now (totals .entry)) ⌝ }
 {
-    let reading = configuration::offsets(bytes, inputs, outputs);
+    let reading = configuration_reader::offsets(bytes, inputs, outputs);
     match reading {
         Reading::Configuration {
             modules,

@@ -29,7 +29,7 @@ pub struct Module {
 }
 
 // How many bytes of process data a side has.
-pub(crate) fn side_length(side: Side) -> usize
+pub fn side_length(side: Side) -> usize
     ensures { λ r. ⌜ r ≡ lengthOf side ⌝ }
 {
     match side {

@@ -1,16 +1,14 @@
-// PROFIBUS DP configuration data (document 01, "Configuration"): reading, the offsets of its modules and
-// walking over them, and the definitions and laws of both ways; the crate configuration_writer writes.
+// PROFIBUS DP configuration data (document 01, "Configuration"): its modules, a walk over them, and the
+// definitions and laws of both ways; the crate configuration_reader reads it whole, and configuration_writer writes.
 mod fields;
-mod lists;
 mod reading;
 mod walk;
 
 pub use fields::Identifier;
 pub use fields::Module;
 pub use fields::Side;
-pub use lists::offsets;
+pub use fields::side_length;
 pub use reading::Reading;
-pub use reading::read;
 pub use walk::Position;
 pub use walk::Step;
 pub use walk::first;

@@ -10,7 +10,7 @@ use configuration::Identifier;
 use configuration::Module;
 use configuration::Reading;
 use configuration::Side;
-use configuration::read;
+use configuration_reader::read;
 use octets::Written;
 
 // How many bytes the length of a side takes in the special format, which is also its bit.

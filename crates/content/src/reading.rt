@@ -98,7 +98,7 @@ fn read_diagnosis(user: &[u8]) -> UserData
 fn read_parameters(user: &[u8], mode: Mode) -> UserData
     ensures { λ r. ⌜ r ≡ parametersOf (now (user .entry)) mode ⌝ }
 {
-    let reading = parameters::read(user, mode);
+    let reading = parameters_reader::read(user, mode);
     match reading {
         parameters::Reading::Parameters { fields, start, len } => UserData::Is {
             content: Content::SetPrm(fields),
@@ -113,7 +113,7 @@ fn read_parameters(user: &[u8], mode: Mode) -> UserData
 fn read_configuration(content: Content, user: &[u8]) -> UserData
     ensures { λ r. ⌜ r ≡ configurationOf content (now (user .entry)) ⌝ }
 {
-    let reading = configuration::read(user);
+    let reading = configuration_reader::read(user);
     match reading {
         configuration::Reading::Configuration {
             modules: _,

@@ -64,7 +64,7 @@ fn put(
     requires { ⌜ verdictOf Sd2 (settings .printer) (settings .controller) fc content (now part) ≡ fine ⌝ }
     ensures { λ r. ⌜ leaving r (now (request .exit)) ≡ acted (go (telegramFor Sd2 (settings .printer) (settings .controller) fc content (now (part .entry))) controller) (now (request .entry)) ⌝ }
 {
-    let written = service::write(
+    let written = service_writer::write(
         Format::Sd2,
         settings.printer,
         settings.controller,

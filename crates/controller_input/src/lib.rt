@@ -59,7 +59,7 @@ fn heard(
 pub fn take(settings: Settings, reply: &[u8]) -> Exchange
     ensures { λ r. ⌜ exchanged r ≡ gotIn settings (now (reply .entry)) ⌝ }
 {
-    let reading = fdl::read(reply);
+    let reading = fdl_reader::read(reply);
     match reading {
         Reading::Confirmation => Exchange::Answered(Reply::Confirmation),
         Reading::Token { da: _, sa: _ } => Exchange::Answered(Reply::Other),

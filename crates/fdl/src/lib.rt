@@ -1,10 +1,10 @@
-// PROFIBUS data link (FDL) telegrams: reading (document 01, "Telegram layouts"), and the definitions and
-// laws of both ways; the crate framing writes.
+// PROFIBUS data link (FDL) telegrams (document 01, "Telegram layouts"): their fields, their checksum, and the
+// definitions and laws of both ways; the crate fdl_reader reads, and framing writes.
 mod reading;
 mod telegram;
 
+pub use reading::Extension;
 pub use reading::Reading;
-pub use reading::read;
 pub use telegram::Format;
 pub use telegram::Header;
 pub use telegram::Sap;

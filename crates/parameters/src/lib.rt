@@ -1,5 +1,5 @@
-// Parameters of a slave (Set_Prm; document 01, "Parameters"): reading, and the times that they set, and the
-// definitions and laws of both ways; the crate parameters_writer writes.
+// Parameters of a slave (Set_Prm; document 01, "Parameters"): their fields, the times that they set, and the
+// definitions and laws of both ways; the crate parameters_reader reads, and parameters_writer writes.
 mod fields;
 mod reading;
 mod timing;
@@ -15,6 +15,5 @@ pub use fields::good_status1;
 pub use fields::good_status2;
 pub use fields::good_status3;
 pub use reading::Reading;
-pub use reading::read;
 pub use timing::expired;
 pub use timing::watchdog;

@@ -65,7 +65,7 @@ fn addressed(address: u8, telegram: &[u8], reading: Reading, header: Header) -> 
 pub fn receive(address: u8, telegram: &[u8]) -> Received
     ensures { λ r. ⌜ receivedIn (now (telegram .entry)) r ≡ receivedOf address (now (telegram .entry)) ⌝ }
 {
-    let reading = fdl::read(telegram);
+    let reading = fdl_reader::read(telegram);
     match reading {
         Reading::Confirmation => Received::Nothing,
         Reading::Token { da: _, sa: _ } => Received::Nothing,

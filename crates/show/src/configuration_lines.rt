@@ -51,7 +51,7 @@ fn span_at(offsets: &[u16; 256], i: usize) -> Span
 fn module_lines(bytes: &[u8], modules: usize, inputs: u16, outputs: u16) {
     let mut input_offsets = [inputs; 256];
     let mut output_offsets = [outputs; 256];
-    configuration::offsets(bytes, &mut input_offsets, &mut output_offsets);
+    configuration_reader::offsets(bytes, &mut input_offsets, &mut output_offsets);
     let mut i = 0;
     while i < 255 {
         if i == modules {
@@ -68,7 +68,7 @@ fn module_lines(bytes: &[u8], modules: usize, inputs: u16, outputs: u16) {
 
 // Nothing where the bytes are no configuration.
 pub(crate) fn configuration_lines(bytes: &[u8]) {
-    let reading = configuration::read(bytes);
+    let reading = configuration_reader::read(bytes);
     match reading {
         Reading::Configuration {
             modules,

@@ -22,7 +22,7 @@ use libc::STDIN_FILENO;
 
 // The lines for these bytes.
 fn lines(bytes: &[u8]) {
-    match fdl::read(bytes) {
+    match fdl_reader::read(bytes) {
         Reading::Confirmation => confirmation_line(),
         Reading::Token { da, sa } => token_line(da, sa),
         Reading::Telegram {

@@ -57,7 +57,7 @@ pub(crate) fn kind_of(format: Format) -> u8 {
 }
 
 pub(crate) fn telegram(bytes: &[u8]) {
-    match fdl::read(bytes) {
+    match fdl_reader::read(bytes) {
         Reading::Confirmation => address_fields(0, 0, 0),
         Reading::Token { da, sa } => address_fields(1, da, sa),
         Reading::Telegram {

@@ -101,7 +101,7 @@ fn offset_fields(count: usize, inputs: &[u16], outputs: &[u16]) {
 fn totals(bytes: &[u8]) -> configuration::Reading {
     let mut inputs = [0u16; 244];
     let mut outputs = [0u16; 244];
-    let reading = configuration::offsets(bytes, &mut inputs, &mut outputs);
+    let reading = configuration_reader::offsets(bytes, &mut inputs, &mut outputs);
     match reading {
         configuration::Reading::Refused(refusal) => refused(refusal),
         configuration::Reading::Configuration {

@@ -40,7 +40,7 @@ pub(crate) fn parameter_words(fields: parameters::Parameters) {
 }
 
 pub(crate) fn parameters_line(bytes: &[u8], mode: Mode, out: &mut [u8]) {
-    match parameters::read(bytes, mode) {
+    match parameters_reader::read(bytes, mode) {
         parameters::Reading::Refused(refusal) => {
             refused(refusal);
             text(b"\n");

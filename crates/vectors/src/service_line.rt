@@ -81,7 +81,7 @@ pub(crate) fn service_line(bytes: &[u8], mode: Mode, out: &mut [u8]) {
             content_words(content);
             place(start, len);
             let part = octets::part(bytes, start, len);
-            let written = service::write(
+            let written = service_writer::write(
                 format,
                 header.da,
                 header.sa,

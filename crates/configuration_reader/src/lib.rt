@@ -1,0 +1,6 @@
+// PROFIBUS DP configuration data, read whole: what its modules add up to, and where each begins.
+mod lists;
+mod reading;
+
+pub use lists::offsets;
+pub use reading::read;

@@ -1,0 +1,185 @@
+// Reading a telegram: each byte that can be refused has its own return, in document 01's order.
+ghost use mathlib.Core.Path.{_≡_};
+ghost use Prim.Native.Nat.{_+_, _≤_};
+ghost use lib.ListN.{length};
+ghost use Rattle.function_code.specs.Code.{classOf};
+ghost use Rattle.fdl.specs.Reading.{extensionOf, sourceOf, destinationOf, fieldsOf, framedOf, sd2Of, tokenOf, readOf};
+use fdl::Extension;
+use fdl::Format;
+use fdl::Header;
+use fdl::Reading;
+use fdl::Sap;
+use fdl::checksum;
+use fdl::sap_length;
+use function_code::reserved;
+use octets::Refusal;
+
+// The access point that belongs to an address byte, of a PDU of which len bytes from start are left.
+fn access_point(s: &[u8], address: u8, start: usize, len: usize) -> Extension
+    requires { ⌜ start + len ≤ length (now s) ⌝ }
+    ensures { λ r. ⌜ r ≡ extensionOf (now (s .entry)) address start len ⌝ }
+{
+    if address < 128 {
+        return Extension::Is(Sap::Absent);
+    }
+    if len == 0 {
+        return Extension::Refused(Refusal { number: 9 });
+    }
+    let sap = s[start];
+    if 63 < sap {
+        return Extension::Refused(Refusal { number: 9 });
+    }
+    Extension::Is(Sap::Present(sap))
+}
+
+// SA's access point: the last byte that can be refused.
+fn source(s: &[u8], format: Format, at: usize, dsap: Sap, start: usize, len: usize) -> Reading
+    requires { ⌜ (at + 3 ≤ start) × (start + len + 2 ≡ length (now s)) ⌝ }
+    ensures { λ r. ⌜ r ≡ sourceOf (now (s .entry)) format at dsap start len ⌝ }
+{
+    let da = s[at];
+    let sa = s[at + 1];
+    let fc = s[at + 2];
+    let found = access_point(s, sa, start, len);
+    match found {
+        Extension::Refused(refusal) => Reading::Refused(refusal),
+        Extension::Is(ssap) => {
+            let n = sap_length(ssap);
+            let header = Header {
+                da: da % 128,
+                sa: sa % 128,
+                fc,
+                dsap,
+                ssap,
+            };
+            Reading::Telegram {
+                format,
+                header,
+                start: start + n,
+                len: len - n,
+            }
+        }
+    }
+}
+
+// DA's access point.
+fn destination(s: &[u8], format: Format, at: usize, pdu: usize) -> Reading
+    requires { ⌜ at + pdu + 5 ≡ length (now s) ⌝ }
+    ensures { λ r. ⌜ r ≡ destinationOf (now (s .entry)) format at pdu ⌝ }
+{
+    let da = s[at];
+    let found = access_point(s, da, at + 3, pdu);
+    match found {
+        Extension::Refused(refusal) => Reading::Refused(refusal),
+        Extension::Is(dsap) => {
+            let n = sap_length(dsap);
+            source(s, format, at, dsap, at + 3 + n, pdu - n)
+        }
+    }
+}
+
+// SA's range and the function code. (DA's seven bits are all in range.)
+fn fields(s: &[u8], format: Format, at: usize, pdu: usize) -> Reading
+    requires { ⌜ at + pdu + 5 ≡ length (now s) ⌝ }
+    ensures { λ r. ⌜ r ≡ fieldsOf classOf (now (s .entry)) format at pdu ⌝ }
+{
+    let sa = s[at + 1];
+    if sa % 128 == 127 {
+        return Reading::Refused(Refusal { number: 7 });
+    }
+    let fc = s[at + 2];
+    if reserved(fc) {
+        return Reading::Refused(Refusal { number: 8 });
+    }
+    destination(s, format, at, pdu)
+}
+
+// Length, end byte and checksum of a telegram whose DA stands at `at` and whose PDU has pdu bytes.
+fn framed(s: &[u8], format: Format, at: usize, pdu: usize) -> Reading
+    requires { ⌜ (at ≤ 4) × (pdu ≤ 246) ⌝ }
+    ensures { λ r. ⌜ r ≡ framedOf classOf (now (s .entry)) format at pdu ⌝ }
+{
+    let total = at + pdu + 5;
+    if s.len() < total {
+        return Reading::Refused(Refusal { number: 1 });
+    }
+    if total < s.len() {
+        return Reading::Refused(Refusal { number: 4 });
+    }
+    if s[at + pdu + 4] != 0x16 {
+        return Reading::Refused(Refusal { number: 5 });
+    }
+    let sum = checksum(&s[at..at + pdu + 3]);
+    if s[at + pdu + 3] != sum {
+        return Reading::Refused(Refusal { number: 6 });
+    }
+    fields(s, format, at, pdu)
+}
+
+// The four leading bytes of SD2.
+fn sd2(s: &[u8]) -> Reading
+    ensures { λ r. ⌜ r ≡ sd2Of classOf (now (s .entry)) ⌝ }
+{
+    if s.len() < 4 {
+        return Reading::Refused(Refusal { number: 1 });
+    }
+    let le = s[1];
+    if le < 4 {
+        return Reading::Refused(Refusal { number: 3 });
+    }
+    if 249 < le {
+        return Reading::Refused(Refusal { number: 3 });
+    }
+    if s[2] != le {
+        return Reading::Refused(Refusal { number: 3 });
+    }
+    if s[3] != 0x68 {
+        return Reading::Refused(Refusal { number: 3 });
+    }
+    framed(s, Format::Sd2, 4, le as usize - 3)
+}
+
+// A token's addresses, bit 7 counted.
+fn token(s: &[u8]) -> Reading
+    ensures { λ r. ⌜ r ≡ tokenOf (now (s .entry)) ⌝ }
+{
+    if s.len() < 3 {
+        return Reading::Refused(Refusal { number: 1 });
+    }
+    if 3 < s.len() {
+        return Reading::Refused(Refusal { number: 4 });
+    }
+    let da = s[1];
+    if 126 < da {
+        return Reading::Refused(Refusal { number: 7 });
+    }
+    let sa = s[2];
+    if 126 < sa {
+        return Reading::Refused(Refusal { number: 7 });
+    }
+    Reading::Token { da, sa }
+}
+
+// Reads a telegram: all of the lent slice is one.
+pub fn read(bytes: &[u8]) -> Reading
+    ensures { λ r. ⌜ r ≡ readOf (now (bytes .entry)) ⌝ }
+{
+    if bytes.len() == 0 {
+        return Reading::Refused(Refusal { number: 1 });
+    }
+    let start = bytes[0];
+    match start {
+        0x10 => framed(bytes, Format::Sd1, 1, 0),
+        0x68 => sd2(bytes),
+        0xA2 => framed(bytes, Format::Sd3, 1, 8),
+        0xDC => token(bytes),
+        0xE5 => {
+            if bytes.len() == 1 {
+                Reading::Confirmation
+            } else {
+                Reading::Refused(Refusal { number: 4 })
+            }
+        }
+        _ => Reading::Refused(Refusal { number: 2 }),
+    }
+}
