@@ -48,6 +48,13 @@ extern "C" {
 /* The longest telegram: an output of so many bytes is never too small. */
 #define RABTUNEX_TELEGRAM_MAX 255
 
+/* The most user data of a telegram. Each SAP takes the place of one of them. */
+#define RABTUNEX_USER_MAX 246
+
+/* Addresses: the highest of a station, and the one of a call to all. */
+#define RABTUNEX_ADDRESS_MAX 126
+#define RABTUNEX_BROADCAST 127
+
 /* The fields of a telegram: an array of RABTUNEX_FIELDS bytes, at these places. */
 #define RABTUNEX_FIELDS 8
 #define RABTUNEX_KIND 0  /* which telegram: RABTUNEX_SC .. RABTUNEX_SD3 */
@@ -59,6 +66,7 @@ extern "C" {
 #define RABTUNEX_START 6 /* where the user data begin in the telegram's bytes */
 #define RABTUNEX_LEN 7   /* how many user data bytes there are */
 
+#define RABTUNEX_SAP_MAX 63
 #define RABTUNEX_NO_SAP 255
 
 /* Kinds of telegram. A short confirmation has no other field, a token only DA and SA: reading
@@ -68,6 +76,26 @@ extern "C" {
 #define RABTUNEX_SD1 2
 #define RABTUNEX_SD2 3
 #define RABTUNEX_SD3 4
+
+/* Function codes. A call's is RABTUNEX_FC_CALL, with FCB and FCV where they are set, and its
+ * function; an answer's is its function, and its station type, 0 for a slave, in bits 4 and 5. */
+#define RABTUNEX_FC_CALL 0x40
+#define RABTUNEX_FC_FCB 0x20
+#define RABTUNEX_FC_FCV 0x10
+
+/* Functions of calls. */
+#define RABTUNEX_FC_SDN_LOW 4
+#define RABTUNEX_FC_SDN_HIGH 6
+#define RABTUNEX_FC_FDL_STATUS 9
+#define RABTUNEX_FC_SRD_LOW 12
+#define RABTUNEX_FC_SRD_HIGH 13
+
+/* Functions of answers. */
+#define RABTUNEX_FC_OK 0       /* bare: acknowledged, or the station is there */
+#define RABTUNEX_FC_UE 1       /* bare: user error */
+#define RABTUNEX_FC_RR 2       /* bare: no resource */
+#define RABTUNEX_FC_RS 3       /* bare: no such service */
+#define RABTUNEX_FC_DATA_LOW 8 /* with data */
 
 /* Reads one telegram, which is all of the bytes, into its fields. The user data stay where they
  * are: fields[RABTUNEX_LEN] bytes from bytes + fields[RABTUNEX_START]. */
@@ -92,6 +120,9 @@ uint8_t rabtunex_write_telegram(const uint8_t fields[RABTUNEX_FIELDS], const uin
 #define RABTUNEX_BLOCKS 5  /* how many blocks there are */
 
 #define RABTUNEX_NO_MASTER 255
+
+/* The longest data of a service, of a diagnosis too. */
+#define RABTUNEX_DATA_MAX 244
 
 /* Reads one diagnosis, which is all of the bytes, into its fields. Every block is looked at too:
  * no step over the blocks of a diagnosis that was read is refused. */
@@ -121,10 +152,33 @@ uint8_t rabtunex_read_diagnosis(const uint8_t *bytes, size_t bytes_len,
 
 /* Channel. */
 #define RABTUNEX_CHANNEL_MODULE 1    /* the module, 0 to 63 */
-#define RABTUNEX_CHANNEL_DIRECTION 2 /* 1 input, 2 output, 3 both */
+#define RABTUNEX_CHANNEL_DIRECTION 2 /* RABTUNEX_INPUT .. RABTUNEX_INPUT_OUTPUT */
 #define RABTUNEX_CHANNEL_NUMBER 3    /* the channel of the module, 0 to 63 */
-#define RABTUNEX_CHANNEL_TYPE 4      /* 1 to 6: bit, two bits, four bits, byte, word, two words */
-#define RABTUNEX_CHANNEL_ERROR 5     /* 1 to 9, or the maker's own from 16 to 31 */
+#define RABTUNEX_CHANNEL_TYPE 4      /* RABTUNEX_BIT .. RABTUNEX_TWO_WORDS */
+#define RABTUNEX_CHANNEL_ERROR 5     /* RABTUNEX_SHORT_CIRCUIT .. _VENDOR_ERROR_MAX */
+
+#define RABTUNEX_INPUT 1
+#define RABTUNEX_OUTPUT 2
+#define RABTUNEX_INPUT_OUTPUT 3
+
+#define RABTUNEX_BIT 1
+#define RABTUNEX_TWO_BITS 2
+#define RABTUNEX_FOUR_BITS 3
+#define RABTUNEX_BYTE 4
+#define RABTUNEX_WORD 5
+#define RABTUNEX_TWO_WORDS 6
+
+#define RABTUNEX_SHORT_CIRCUIT 1
+#define RABTUNEX_UNDERVOLTAGE 2
+#define RABTUNEX_OVERVOLTAGE 3
+#define RABTUNEX_OVERLOAD 4
+#define RABTUNEX_OVERTEMPERATURE 5
+#define RABTUNEX_WIRE_BREAK 6
+#define RABTUNEX_UPPER_LIMIT 7
+#define RABTUNEX_LOWER_LIMIT 8
+#define RABTUNEX_CHANNEL_FAULT 9     /* some error */
+#define RABTUNEX_VENDOR_ERROR_MIN 16 /* from here on the maker's own */
+#define RABTUNEX_VENDOR_ERROR_MAX 31
 
 /* The position of the first block. */
 #define RABTUNEX_FIRST_BLOCK 6
@@ -188,9 +242,13 @@ uint8_t rabtunex_configuration_offsets(const uint8_t *bytes, size_t bytes_len, u
 #define RABTUNEX_DPV1_SPECIFIER 3 /* alarm specifier */
 
 /* Negative answer. */
-#define RABTUNEX_DPV1_DECODE 1 /* whose error codes they are: 128, 254 or 255 */
+#define RABTUNEX_DPV1_DECODE 1 /* whose error codes they are: RABTUNEX_DECODE_DP .. _HART */
 #define RABTUNEX_DPV1_CODE1 2  /* error code 1 */
 #define RABTUNEX_DPV1_CODE2 3  /* error code 2 */
+
+#define RABTUNEX_DECODE_DP 128
+#define RABTUNEX_DECODE_FMS 254
+#define RABTUNEX_DECODE_HART 255
 
 /* Numbers, as they stand in the first byte. A poll is a call of no bytes, and no answer is one. */
 #define RABTUNEX_DPV1_READ 0x5E
@@ -226,17 +284,17 @@ uint8_t rabtunex_read_dpv1_call(const uint8_t *bytes, size_t bytes_len,
 uint8_t rabtunex_read_dpv1_answer(const uint8_t *bytes, size_t bytes_len,
                                   uint8_t fields[RABTUNEX_DPV1_FIELDS]);
 
-/* Writes one DPV1 call from its fields and data at the front of out, and its length to *stored: 0
- * for a poll. RABTUNEX_DPV1_START and RABTUNEX_DPV1_LEN are not looked at, nor is any field that
- * the case does not have, so that fields that were read can be given back as they are. A number
- * that no call has, a negative one among them, gives RABTUNEX_REFUSED_DPV1 before all else; a
- * count of data that the case does not take, RABTUNEX_REFUSED_DATA_LENGTH. */
-uint8_t rabtunex_write_dpv1_call(const uint8_t fields[RABTUNEX_DPV1_FIELDS], const uint8_t *data,
-                                 size_t data_len, uint8_t *out, size_t out_len, size_t *stored);
+/* Writes one DPV1 call from its fields and its part, the data, at the front of out, and its length
+ * to *stored: 0 for a poll. RABTUNEX_DPV1_START and RABTUNEX_DPV1_LEN are not looked at, nor is any
+ * field that the case does not have, so that fields that were read can be given back as they are.
+ * A number that no call has, a negative one among them, gives RABTUNEX_REFUSED_DPV1 before all
+ * else; a count of data that the case does not take, RABTUNEX_REFUSED_DATA_LENGTH. */
+uint8_t rabtunex_write_dpv1_call(const uint8_t fields[RABTUNEX_DPV1_FIELDS], const uint8_t *part,
+                                 size_t part_len, uint8_t *out, size_t out_len, size_t *stored);
 
 /* The same of one DPV1 answer. No answer has the number of a poll. */
-uint8_t rabtunex_write_dpv1_answer(const uint8_t fields[RABTUNEX_DPV1_FIELDS], const uint8_t *data,
-                                   size_t data_len, uint8_t *out, size_t out_len, size_t *stored);
+uint8_t rabtunex_write_dpv1_answer(const uint8_t fields[RABTUNEX_DPV1_FIELDS], const uint8_t *part,
+                                   size_t part_len, uint8_t *out, size_t out_len, size_t *stored);
 
 /* Services. The number of each is its SAP at the slave; Data_Exchange has none. */
 #define RABTUNEX_DATA_EXCHANGE 0
@@ -317,8 +375,9 @@ uint8_t rabtunex_write_service(const uint8_t fields[RABTUNEX_SERVICE_FIELDS], ui
                                const uint8_t *part, size_t part_len, uint8_t *out, size_t out_len,
                                size_t *stored);
 
-/* The most templates of a book, and the longest body of one. */
+/* The most templates of a book, and the shortest and the longest body of one. */
 #define RABTUNEX_TEMPLATES_MAX 16
+#define RABTUNEX_TEMPLATE_MIN 1
 #define RABTUNEX_TEMPLATE_MAX 200
 
 /* The longest book: an output of so many bytes is never too small. */
@@ -330,7 +389,7 @@ uint8_t rabtunex_read_book(const uint8_t *bytes, size_t bytes_len, size_t *count
 
 /* A template of a book: an array of RABTUNEX_TEMPLATE_FIELDS numbers, at these places. */
 #define RABTUNEX_TEMPLATE_FIELDS 3
-#define RABTUNEX_TEMPLATE_SLOT 0  /* the slot, 0 to 15 */
+#define RABTUNEX_TEMPLATE_SLOT 0  /* the slot, below RABTUNEX_SLOTS */
 #define RABTUNEX_TEMPLATE_START 1 /* where the body begins in the book's bytes */
 #define RABTUNEX_TEMPLATE_LEN 2   /* how many bytes the body has */
 
@@ -362,10 +421,15 @@ uint8_t rabtunex_write_book(const uint8_t *slots, size_t slots_len, const uint8_
 
 /* What is set for a download: an array of RABTUNEX_SETTINGS bytes, at these places. */
 #define RABTUNEX_SETTINGS 4
-#define RABTUNEX_SET_PRINTER 0    /* the address that requests go to, 0 to 126 */
-#define RABTUNEX_SET_CONTROLLER 1 /* the address that they come from, 0 to 126, another one */
-#define RABTUNEX_SET_REPEATS 2    /* R, how often a request is sent again, 0 to 7 */
-#define RABTUNEX_SET_POLLS 3      /* P, how often a result is asked for, 1 to 31 */
+#define RABTUNEX_SET_PRINTER 0    /* the address that requests go to */
+#define RABTUNEX_SET_CONTROLLER 1 /* the address that they come from, another one */
+#define RABTUNEX_SET_REPEATS 2    /* R, how often a request is sent again */
+#define RABTUNEX_SET_POLLS 3      /* P, how often a result is asked for */
+
+/* Either address is RABTUNEX_ADDRESS_MAX at most; R may be 0. */
+#define RABTUNEX_REPEATS_MAX 7
+#define RABTUNEX_POLLS_MIN 1
+#define RABTUNEX_POLLS_MAX 31
 
 /* How a download stands: an array of RABTUNEX_ENDING bytes. The template, counted from 1, is 0
  * where the ending has none, and both codes are 0 but for RABTUNEX_ENDED_REFUSED. */
@@ -382,6 +446,16 @@ uint8_t rabtunex_write_book(const uint8_t *slots, size_t slots_len, const uint8_
 #define RABTUNEX_ENDED_NOT_READY 4  /* P polls for the template's result got "not yet" */
 #define RABTUNEX_ENDED_REFUSED 5    /* the printer refused the template, with both codes */
 #define RABTUNEX_ENDED_STRANGE 6    /* some other reply came at the template */
+
+/* Code 1 of a printer that refuses a write; code 2 is 0 then. A download meets only the last one,
+ * since a book has no other template. */
+#define RABTUNEX_CODE1_INDEX 0xB0  /* there is no such slot */
+#define RABTUNEX_CODE1_LENGTH 0xB1 /* the template is too long */
+#define RABTUNEX_CODE1_SLOT 0xB2   /* the DPV1 slot is not RABTUNEX_TEMPLATES_SLOT */
+#define RABTUNEX_CODE1_DENIED 0xB6 /* RABTUNEX_GUARDED_SLOT, while boarding */
+
+/* The DPV1 slot whose indices are the printer's slots. */
+#define RABTUNEX_TEMPLATES_SLOT 1
 
 /* What the controller remembers between two steps: an array of RABTUNEX_CONTROLLER_STATE bytes.
  * All 0 is a fresh one: begin every download with it. A place that the kind does not have is not
@@ -433,8 +507,8 @@ uint8_t rabtunex_controller_step(const uint8_t settings[RABTUNEX_SETTINGS], cons
  * fresh printer has its address, boarding as it is, RABTUNEX_NOBODY, and all else 0. A place that
  * the pending result does not have is not looked at, and is stored as 0. */
 #define RABTUNEX_PRINTER_STATE 11
-#define RABTUNEX_PRINTER_ADDRESS 0  /* its own address, 0 to 126 */
-#define RABTUNEX_PRINTER_BOARDING 1 /* 1 while boarding, which guards slot seven, else 0 */
+#define RABTUNEX_PRINTER_ADDRESS 0  /* its own address, RABTUNEX_ADDRESS_MAX at most */
+#define RABTUNEX_PRINTER_BOARDING 1 /* 1 while boarding, else 0 */
 #define RABTUNEX_PRINTER_FCB 2      /* FCB of the last opening or new call, 0 or 1 */
 #define RABTUNEX_PRINTER_SA 3       /* SA of it, or RABTUNEX_NOBODY */
 #define RABTUNEX_PRINTER_HELD 4     /* how many bytes at the front of reply are held, or 0 */
@@ -442,6 +516,9 @@ uint8_t rabtunex_controller_step(const uint8_t settings[RABTUNEX_SETTINGS], cons
 #define RABTUNEX_PRINTER_RESULT 6   /* three: slot, index and length; or code 1 and code 2 */
 #define RABTUNEX_PRINTER_WAIT 9     /* how many polls get "not yet" before the result */
 #define RABTUNEX_PRINTER_WRITES 10  /* writes performed since the opening, staying at 255 */
+
+/* The slot that cannot be written to while boarding. */
+#define RABTUNEX_GUARDED_SLOT 7
 
 #define RABTUNEX_NOBODY 255
 
@@ -461,8 +538,8 @@ uint8_t rabtunex_controller_step(const uint8_t settings[RABTUNEX_SETTINGS], cons
  * The first fault comes first:
  *
  *     RABTUNEX_REFUSED_FIELD  a state that no printer has (boarding or FCB above 1, an unknown
- *                             pending result), an address above 126, a slot length above 200, or
- *                             a diagnosis that is refused
+ *                             pending result), a bad address, a slot length above
+ *                             RABTUNEX_TEMPLATE_MAX, or a diagnosis that is refused
  *     RABTUNEX_REFUSED_ROOM   a reply buffer under RABTUNEX_TELEGRAM_MAX bytes
  *
  * The printer's end of the line, where receive gives the count of bytes that came in:
