@@ -375,7 +375,8 @@ uint8_t rabtunex_write_service(const uint8_t fields[RABTUNEX_SERVICE_FIELDS], ui
                                const uint8_t *part, size_t part_len, uint8_t *out, size_t out_len,
                                size_t *stored);
 
-/* The most templates of a book, and the shortest and the longest body of one. */
+/* A template book has a template for each of some slots of the printer, at least one, with the slots
+ * going up: the most templates, and the shortest and the longest body of one. */
 #define RABTUNEX_TEMPLATES_MAX 16
 #define RABTUNEX_TEMPLATE_MIN 1
 #define RABTUNEX_TEMPLATE_MAX 200
