@@ -18,4 +18,5 @@ fn main() {
     println!("cargo:rerun-if-env-changed={FOLDER_VARIABLE}");
     println!("cargo:rerun-if-changed={archive}");
     println!("cargo:rustc-link-arg-tests={archive}");
+    println!("cargo:rustc-env=RABTUNEX_ARCHIVE_FILE={archive}");
 }

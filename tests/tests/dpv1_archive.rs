@@ -36,8 +36,8 @@ mod library {
 
         fn rabtunex_write_dpv1_call(
             fields: *const Fields,
-            data: *const u8,
-            data_len: usize,
+            part: *const u8,
+            part_len: usize,
             out: *mut u8,
             out_len: usize,
             stored: *mut usize,
@@ -45,8 +45,8 @@ mod library {
 
         fn rabtunex_write_dpv1_answer(
             fields: *const Fields,
-            data: *const u8,
-            data_len: usize,
+            part: *const u8,
+            part_len: usize,
             out: *mut u8,
             out_len: usize,
             stored: *mut usize,
