@@ -31,9 +31,9 @@ static uint8_t download(int line, const struct controller *controller,
     size_t stored;
     memset(state, 0, sizeof state);
     for (;;) {
-        uint8_t refused = rabtunex_controller_step(controller->settings, controller->book,
-                                                   controller->book_len, state, reply, got,
-                                                   request, sizeof request, &stored, ending);
+        uint8_t refused =
+            rabtunex_controller_step(controller->settings, controller->book, controller->book_len,
+                                     state, reply, got, request, sizeof request, &stored, ending);
         if (refused != 0 || ending[RABTUNEX_ENDING_KIND] != RABTUNEX_GOES_ON) {
             return refused;
         }

@@ -57,7 +57,7 @@ static void stop(const char *why)
     exit(EXIT_FAILURE);
 }
 
-/* Makes a book of so many templates, the first of the shortest length and the last of the longest. */
+/* Makes a book of so many templates, the first as short and the last as long as may be. */
 static void make_book(uint64_t *seed, size_t count)
 {
     size_t total = 0;
@@ -140,8 +140,8 @@ static void call(int printer, const uint8_t fields[RABTUNEX_SERVICE_FIELDS], con
     }
 }
 
-/* A second controller opens, and writes to a slot that no printer has. It does not fetch the result,
- * so the printer is busy when the first one's next write comes. */
+/* A second controller opens, and writes to a slot that no printer has. It does not fetch the
+ * result, so the printer is busy when the first one's next write comes. */
 static void meddle(int printer)
 {
     static const uint8_t body[] = {'A'};
@@ -226,8 +226,8 @@ static size_t surely_new(void)
     }
 }
 
-/* Whether the slots are as the ending says: new up to where it ended, old from there on. Without the
- * printer's word for the template at which it ended, that slot may be either. */
+/* Whether the slots are as the ending says: new up to where it ended, old from there on. Without
+ * the printer's word for the template at which it ended, that slot may be either. */
 static bool slots_are_right(void)
 {
     bool named[RABTUNEX_SLOTS] = {false};
@@ -285,7 +285,8 @@ static void say_line(const struct lossy *line)
            line->requests.damaged, line->replies.lost, line->replies.damaged);
 }
 
-/* One download of sixteen templates: whether it ended as planned and left the slots so. */
+/* One download of sixteen templates: whether it ended as planned and left the slots so. A refusal
+ * is planned for the template that is guarded. */
 static bool as_planned(struct plan plan)
 {
     uint64_t seed = plan.line.seed;
@@ -395,7 +396,8 @@ int main(void)
 {
     unsigned passed = 0;
     unsigned failed = 0;
-    void *shared = mmap(NULL, sizeof *left, PROT_READ | PROT_WRITE, MAP_SHARED | MAP_ANONYMOUS, -1, 0);
+    void *shared =
+        mmap(NULL, sizeof *left, PROT_READ | PROT_WRITE, MAP_SHARED | MAP_ANONYMOUS, -1, 0);
     if (shared == MAP_FAILED) {
         stop("no memory");
     }

@@ -13,8 +13,8 @@
  * answer is false once the line is gone. */
 bool line_receive(int line, uint8_t bytes[RABTUNEX_TELEGRAM_MAX], size_t *count);
 
-/* Sends one telegram, of RABTUNEX_TELEGRAM_MAX bytes at most, or keeps silent, which is a count of 0.
- * The answer is false once the line is gone. */
+/* Sends one telegram, of RABTUNEX_TELEGRAM_MAX bytes at most, or keeps silent, which is a count of
+ * 0. The answer is false once the line is gone. */
 bool line_transmit(int line, const uint8_t *bytes, size_t count);
 
 #endif

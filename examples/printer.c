@@ -37,9 +37,9 @@ uint8_t printer_run(int line, const struct printer *printer, struct slots *slots
     size_t sent;
     begin(printer);
     while (line_receive(line, telegram, &got)) {
-        uint8_t refused = rabtunex_printer_step(
-            state, telegram, got, diagnosis, sizeof diagnosis, not_yet(printer), slots->lengths,
-            slots->bodies, reply, sizeof reply, &sent);
+        uint8_t refused = rabtunex_printer_step(state, telegram, got, diagnosis, sizeof diagnosis,
+                                                not_yet(printer), slots->lengths, slots->bodies,
+                                                reply, sizeof reply, &sent);
         /* Bad telegrams are never refused, they get no reply: it is what this file lends that is
          * wrong, and every further step would be refused too. */
         if (refused != 0) {
