@@ -350,6 +350,9 @@ uint8_t rabtunex_write_dpv1_answer(const uint8_t fields[RABTUNEX_DPV1_FIELDS], c
  * All others have none: the part is all of their data, which is process data, plain bytes, a
  * configuration, or empty. */
 
+/* The shortest response time of Set_Prm, in bit times. */
+#define RABTUNEX_RESPONSE_MIN 11
+
 /* Reads one service telegram, which is all of the bytes, into its fields, in a version. The part
  * stays where it is: fields[RABTUNEX_PART_LEN] bytes from bytes + fields[RABTUNEX_PART_START]. An
  * unknown version gives RABTUNEX_REFUSED_FIELD before all else. The telegram's own refusal comes
@@ -375,8 +378,8 @@ uint8_t rabtunex_write_service(const uint8_t fields[RABTUNEX_SERVICE_FIELDS], ui
                                const uint8_t *part, size_t part_len, uint8_t *out, size_t out_len,
                                size_t *stored);
 
-/* A template book has a template for each of some slots of the printer, at least one, with the slots
- * going up: the most templates, and the shortest and the longest body of one. */
+/* A template book has a template for each of some slots of the printer, at least one, with the
+ * slots going up: the most templates, and the shortest and the longest body of one. */
 #define RABTUNEX_TEMPLATES_MAX 16
 #define RABTUNEX_TEMPLATE_MIN 1
 #define RABTUNEX_TEMPLATE_MAX 200

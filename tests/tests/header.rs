@@ -11,6 +11,7 @@ use repository::root;
 use signatures::{bindings, exports, prototypes, Functions};
 use std::collections::BTreeSet;
 use std::io::Write;
+use std::path::Path;
 use std::process::{Command, Stdio};
 
 /// The archive that the tests are linked with.
@@ -84,6 +85,25 @@ fn compilers_take_the_exports_for_what_the_header_declares() {
 fn tests_declare_the_exports_and_no_others() {
     let exports = exports::all(&root());
     assert_eq!(bindings::checked(&root(), &exports), names(&exports));
+}
+
+/// The program in C that tries the constants, under the sanitizers.
+#[test]
+fn constants_are_the_librarys() {
+    let program = Path::new(env!("CARGO_TARGET_TMPDIR")).join("constants");
+    let compiled = Command::new("cc")
+        .args(["-std=c99", "-Wall", "-Wextra", "-Wpedantic", "-Wconversion"])
+        .args(["-Werror", "-fsanitize=address,undefined"])
+        .args(["-fno-sanitize-recover=all", "-I"])
+        .args([root().join("include"), root().join("tests/constants.c")])
+        .arg(ARCHIVE)
+        .arg("-o")
+        .arg(&program)
+        .status()
+        .expect("cc runs");
+    assert!(compiled.success());
+    let ended = Command::new(&program).status().expect("it runs");
+    assert!(ended.success());
 }
 
 /// Every refusal number of the header is the independent program's; it has one
