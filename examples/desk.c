@@ -97,8 +97,8 @@ static void fill_slots(uint64_t *seed)
     left->slots = before;
 }
 
-/* Begins a process at the far end of a new line: its number there, and 0 in the process itself. The
- * lines in use already are not the new process's. */
+/* Begins a process and a line to it. The answer is the process's number, and 0 in the process
+ * itself, which has no part in the other line. */
 static pid_t begin(int *line, int other)
 {
     int ends[2];
