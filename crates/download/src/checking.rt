@@ -62,7 +62,7 @@ pub fn usable(
     if let Check::Refused(number) = entries {
         return Check::Refused(number);
     }
-    let station = printer::usable(printer, diagnosis, lengths, bodies, reply);
+    let station = printer_state::usable(printer, diagnosis, lengths, bodies, reply);
     if let Check::Refused(number) = station {
         return Check::Refused(number);
     }

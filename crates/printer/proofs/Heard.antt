@@ -1,5 +1,5 @@
 -- The step, case by case.
-use mathlib.Core.Path.{_≡_, sym, ap, ap₂, _∙_, subst}
+use mathlib.Core.Path.{_≡_, refl, sym, ap, ap₂, _∙_, subst}
 use mathlib.Core.Bool.{Bool}
 use mathlib.Core.List.{List}
 use Prim.Native.Nat.{ℕ, _≤_}
@@ -20,11 +20,14 @@ use Rattle.protocol.specs.declared.check.Check.{Check}
 use Rattle.protocol.specs.declared.printer.Printer.{Printer}
 use Rattle.protocol.specs.declared.printer.Reaction.{Reaction}
 use Rattle.protocol.specs.declared.printer.Reaction.the-variants as reaction
-use Rattle.printer_input.specs.Meaning.{receivedIn}
+use Rattle.printer_input.specs.Meaning.{askIn, receivedIn}
+use Rattle.printer_input.specs.declared.Ask.{Ask}
+use Rattle.printer_input.specs.declared.Ask.the-variants as ask
 use Rattle.printer_input.specs.declared.Received.{Received}
-use Rattle.printer.specs.Meaning.{replyIn, slotsOf, slotsAfter, deedIn}
+use Rattle.printer_rules.specs.Meaning.{replyIn, askWith, slotsAfter, deedIn}
+use Rattle.printer_rules.specs.declared.rules.Deed.{Deed}
+use Rattle.printer.specs.Meaning.{bodyIn, slotsOf}
 use Rattle.printer.specs.Ready.{Usable, Ready, Sends}
-use Rattle.printer.specs.declared.rules.Deed.{Deed}
 
 -- ---- what is judged first
 
@@ -65,9 +68,19 @@ module _ (diag : List ℕ) (n : ℕ) (s : List ℕ) (x : Station) where
       (newCall diag x fcb sa (perform (x .printer .boarding) n (x .printer .pending) (x .slots) (x .printer .writes) ask))))
       (sym e)
 
+-- ---- calls
+
 -- a call comes from a station 0..126
 pub came : (address : ℕ) (s : List ℕ) {r k : Received} → receivedIn s r ≡ receivedOf address s → r ≡ k → Comes (receivedIn s k)
 came address s e t = subst Comes (sym e ∙ ap (receivedIn s) t) (comes address s)
+
+-- the body of a call stands in its telegram
+pub ask-body : (s : List ℕ) (a : Ask) → askWith a (bodyIn s a) ≡ askIn s a
+ask-body s ask.SlaveDiag = refl
+ask-body s (ask.Write slot index start len) = refl
+ask-body s ask.Poll = refl
+ask-body s ask.Unknown = refl
+ask-body s ask.Undecodable = refl
 
 -- ---- replies
 

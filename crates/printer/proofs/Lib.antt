@@ -1,4 +1,2 @@
-pub mod Deeds
 pub mod Heard
-pub mod Lengths
 pub mod Sent

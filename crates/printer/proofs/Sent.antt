@@ -29,9 +29,9 @@ use Rattle.protocol.specs.Lemmas.Slots.{held-long}
 use Rattle.protocol.specs.Telegrams.{replyCode, answerOf}
 use Rattle.protocol.specs.declared.printer.Outcome.{Outcome}
 use Rattle.protocol.specs.declared.printer.Outcome.the-variants as outcome
-use Rattle.printer.specs.Meaning.{functionOf}
-use Rattle.printer.specs.declared.rules.Status.{Status}
-use Rattle.printer.specs.declared.rules.Status.the-variants as status
+use Rattle.printer_rules.specs.Meaning.{functionOf}
+use Rattle.printer_rules.specs.declared.rules.Status.{Status}
+use Rattle.printer_rules.specs.declared.rules.Status.the-variants as status
 
 -- what a writer of the bytes t stored, where it may and there is room
 module _ (t l : List ℕ) {v : Verdict} {w : Written} (f : v ≡ fine) (short : length t ≤ 255) (room : 255 ≤ length l) (a : w ≡ answerBy v t (length l)) where

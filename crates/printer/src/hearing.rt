@@ -7,22 +7,16 @@ ghost use Rattle.printer_input.specs.Meaning.{askIn};
 ghost use Rattle.protocol.specs.Printer.{openingReply, counted, dropHeld, opened, replyBytes, newCall, heardBy, hear, lending, leaving, stepped, stepOf};
 ghost use Rattle.protocol.specs.Telegrams.{bareBytes};
 ghost use Rattle.protocol.specs.declared.printer.Reaction.the-variants as reaction;
-ghost use Rattle.printer.specs.Meaning.{bodyIn, askWith, slotsOf, deedIn};
-ghost use Rattle.printer.specs.Ready.{Usable, Between, Ready, Fits, Sends};
-use crate::checking::usable;
+ghost use Rattle.printer_rules.specs.Meaning.{askWith, deedIn, Fits};
+ghost use Rattle.printer.specs.Meaning.{bodyIn, slotsOf};
+ghost use Rattle.printer.specs.Ready.{Usable, Between, Ready, Sends};
 use crate::replies::say;
 use crate::replies::say_bare;
-use crate::rules::Deed;
-use crate::rules::Status;
-use crate::rules::opening_reply;
-use crate::rules::perform;
 use crate::slots::keep;
-use crate::state::drop_held;
-use crate::state::is_repeat;
-use crate::state::opened;
-use crate::state::renewed;
 use printer_input::Ask;
 use printer_input::Received;
+use printer_rules::Deed;
+use printer_rules::Status;
 use protocol::Check;
 use protocol::Printer;
 use protocol::Reaction;
@@ -50,7 +44,7 @@ fn quiet(printer: Printer) -> Reaction
     ensures { λ r. ⌜ r ≡ reaction.Heard (dropHeld printer) 0 ⌝ }
 {
     Reaction::Heard {
-        printer: drop_held(printer),
+        printer: printer_state::drop_held(printer),
         reply: 0,
     }
 }
@@ -62,7 +56,7 @@ fn status(printer: Printer, sa: u8, out: &mut [u8]) -> Reaction
 {
     let count = say_bare(Status::Ok, printer.address, sa, out);
     Reaction::Heard {
-        printer: drop_held(printer),
+        printer: printer_state::drop_held(printer),
         reply: count,
     }
 }
@@ -72,10 +66,10 @@ fn open(printer: Printer, sa: u8, ask: Ask, diagnosis: &[u8], out: &mut [u8]) ->
     requires { ⌜ Ready (now diagnosis) (printer .address) sa (now out) ⌝ }
     ensures { λ r. ⌜ ((body : List ℕ) → Sends (opened printer sa) (replyBytes (now (diagnosis .entry)) (printer .address) sa (openingReply (askWith ask body))) (now (out .entry)) (now (out .exit)) r) ⌝ }
 {
-    let reply = opening_reply(ask);
+    let reply = printer_rules::opening_reply(ask);
     let count = say(reply, printer.address, sa, diagnosis, out);
     Reaction::Heard {
-        printer: opened(printer, sa),
+        printer: printer_state::opened(printer, sa),
         reply: count,
     }
 }
@@ -102,7 +96,7 @@ fn act(
     keep(target, body, lengths, bodies);
     let count = say(reply, printer.address, sa, diagnosis, out);
     Reaction::Heard {
-        printer: renewed(printer, fcb, sa, count, deed),
+        printer: printer_state::renewed(printer, fcb, sa, count, deed),
         reply: count,
     }
 }
@@ -124,14 +118,14 @@ fn counted(
     ensures { λ r. ⌜ leaving r (now (lengths .exit)) (now (bodies .exit)) (now (out .exit))
         ≡ stepped (heardBy (now (diagnosis .entry)) «not_yet» (counted fcb sa (askIn (now (telegram .entry)) ask)) (lending printer (now (lengths .entry)) (now (bodies .entry)) (now (out .entry)))) ⌝ }
 {
-    if is_repeat(printer, fcb, sa) {
+    if printer_state::is_repeat(printer, fcb, sa) {
         return Reaction::Heard {
             printer,
             reply: printer.held,
         };
     }
     let body = body_of(telegram, ask);
-    let deed = perform(printer, not_yet, ask, body.len());
+    let deed = printer_rules::perform(printer, not_yet, ask, body.len());
     act(
         printer,
         fcb,
@@ -195,7 +189,7 @@ pub fn step(
     ensures { λ r. ⌜ leaving r (now (lengths .exit)) (now (bodies .exit)) (now (reply .exit))
         ≡ stepOf (now (diagnosis .entry)) «not_yet» (now (telegram .entry)) (lending printer (now (lengths .entry)) (now (bodies .entry)) (now (reply .entry))) ⌝ }
 {
-    let check = usable(printer, diagnosis, lengths, bodies, reply);
+    let check = printer_state::usable(printer, diagnosis, lengths, bodies, reply);
     match check {
         Check::Refused(number) => Reaction::Refused(number),
         Check::Fine => hear(

@@ -11,15 +11,15 @@ ghost use Rattle.content.specs.declared.fields.Content.the-variants as content;
 ghost use Rattle.protocol.specs.Check.{storedIn};
 ghost use Rattle.protocol.specs.Printer.{replyBytes};
 ghost use Rattle.protocol.specs.Telegrams.{bareBytes, diagnosisBytes, answerOf, outcomeBytes};
-ghost use Rattle.printer.specs.Meaning.{functionOf, replyIn};
+ghost use Rattle.printer_rules.specs.Meaning.{functionOf, replyIn};
 ghost use Rattle.printer.specs.Ready.{Between, Ready};
-use crate::rules::Reply;
-use crate::rules::Status;
 use access::Service;
 use fdl::Format;
 use fdl::Header;
 use fdl::Sap;
 use octets::Written;
+use printer_rules::Reply;
+use printer_rules::Status;
 use protocol::Outcome;
 
 // The function code of an answer with data.

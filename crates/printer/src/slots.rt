@@ -3,9 +3,9 @@ ghost use mathlib.Core.Path.{_≡_};
 ghost use Prim.Native.Nat.{_≤_};
 ghost use lib.ListN.{length};
 ghost use Rattle.protocol.specs.Slots.{written};
-ghost use Rattle.printer.specs.Meaning.{slotsOf, slotsAfter};
-ghost use Rattle.printer.specs.Ready.{Fits};
-use crate::rules::Target;
+ghost use Rattle.printer_rules.specs.Meaning.{slotsAfter, Fits};
+ghost use Rattle.printer.specs.Meaning.{slotsOf};
+use printer_rules::Target;
 
 // Slot index: its length, and that many of its 200 bytes from the front.
 fn fill(index: u8, body: &[u8], lengths: &mut [u8; 16], bodies: &mut [u8; 3200])

@@ -7,9 +7,8 @@ use borrow.Author.Needs.{needs}
 use Rattle.protocol.specs.Printer as printer
 use Rattle.protocol.specs.Printer.{perform, newCall, lending, stepped}
 use Rattle.printer_input.specs.Meaning.{askIn}
-use Rattle.printer.specs.Meaning.{askWith}
-use Rattle.printer.proofs.Deeds.{ask-body}
-use Rattle.printer.proofs.Heard.{by-repeat}
+use Rattle.printer_rules.specs.Meaning.{askWith}
+use Rattle.printer.proofs.Heard.{by-repeat, ask-body}
 use Rattle.printer.proofs.hearing.counted.Statement.{statement}
 use Rattle.printer.proofs.hearing.counted.Tie as tie
 

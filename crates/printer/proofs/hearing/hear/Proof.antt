@@ -9,8 +9,7 @@ use Rattle.protocol.specs.declared.printer.Reaction.{Reaction}
 use Rattle.printer_input.specs.Meaning.{receivedIn}
 use Rattle.printer_input.specs.declared.Received.{Received}
 use Rattle.printer.specs.Meaning.{bodyIn}
-use Rattle.printer.proofs.Deeds.{ask-body}
-use Rattle.printer.proofs.Heard.{ready, came, by-received, sent}
+use Rattle.printer.proofs.Heard.{ready, by-received, came, ask-body, sent}
 use Rattle.printer.proofs.hearing.hear.Statement.{statement}
 use Rattle.printer.proofs.hearing.hear.Tie as tie
 

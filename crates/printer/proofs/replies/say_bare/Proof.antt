@@ -10,7 +10,7 @@ use Rattle.fdl.specs.declared.telegram.Header.{Header}
 use Rattle.fdl.specs.declared.telegram.Sap.the-variants.{Absent}
 use Rattle.access.specs.Route.{headerWith}
 use Rattle.protocol.specs.MachineLaws.Replies.{bare-fine}
-use Rattle.printer.specs.Meaning.{functionOf}
+use Rattle.printer_rules.specs.Meaning.{functionOf}
 use Rattle.printer.proofs.Sent.{small, sent, short, none-in, bare-class}
 use Rattle.printer.proofs.replies.say_bare.Statement.{statement}
 use Rattle.printer.proofs.replies.say_bare.Tie as tie
