@@ -34,9 +34,10 @@ use Rattle.protocol.specs.declared.controller.Controller.the-variants as state
 use Rattle.protocol.specs.declared.controller.Ending.{Ending}
 use Rattle.protocol.specs.declared.controller.Settings.{Settings}
 use Rattle.protocol.specs.declared.download.Downloaded.the-variants as downloaded
-use Rattle.download.specs.Sending.{sentOf}
+use Rattle.sending.specs.Laws.{stationAfter, sent-so, station-after}
+use Rattle.sending.specs.Sending.{sentOf}
 use Rattle.download.specs.Turning.{Turned, actedAt, turnAfter, turnOf}
-use Rattle.download.proofs.Turns.{entry-known, passage-at, rest-at, stationAfter, sent-so, station-after}
+use Rattle.download.proofs.Turns.{entry-known, passage-at, rest-at}
 
 -- ---- what a move does
 

@@ -1,21 +1,18 @@
--- The sendings of a download, over lent bytes, are those of the line's definition.
+-- The entries of a line, and one turn of a download.
 use Prim.Native.Nat.{ℕ, zero, suc}
 use mathlib.Core.Path.{_≡_, refl, sym, ap, _∙_}
 use mathlib.Core.Bool.{false}
 use mathlib.Core.List.{List, [], _∷_}
-use lib.Dec.{eqb, ltb}
+use lib.Dec.{ltb}
 use lib.ListN.{getD, take, drop}
 use lib.Seq.{drop-nil}
-use Rattle.octets.specs.Choice.{by-pick}
 use Rattle.octets.specs.Fixed.{passed}
 use Rattle.octets.specs.Front.{fine}
-use Rattle.protocol.specs.Line as line
 use Rattle.protocol.specs.Line.{Passage, passageOf, restOf}
-use Rattle.protocol.specs.Printer.{Station, Stepped, stepped, hear, stepOf}
+use Rattle.protocol.specs.Printer.{Station, Stepped}
 use Rattle.protocol.specs.Printer as printer
 use Rattle.protocol.specs.Controller as controller
-use Rattle.protocol.specs.Download.{Given, hears, steps, passageBy, passagesOf, lineVerdict}
-use Rattle.protocol.specs.MachineLaws.Stations.{station-kept}
+use Rattle.protocol.specs.Download.{passageBy, passagesOf, lineVerdict}
 use Rattle.protocol.specs.declared.controller.Action.{Action}
 use Rattle.protocol.specs.declared.controller.Action.the-variants as action
 use Rattle.protocol.specs.declared.controller.Controller.{Controller}
@@ -23,7 +20,7 @@ use Rattle.protocol.specs.declared.controller.Settings.{Settings}
 use Rattle.protocol.specs.declared.printer.Printer.{Printer}
 use Rattle.protocol.specs.declared.printer.Reaction.{Reaction}
 use Rattle.protocol.specs.declared.printer.Reaction.the-variants as reaction
-use Rattle.download.specs.Sending.{unanswered, sentBy, sentOf}
+use Rattle.sending.specs.Sending.{sentOf}
 use Rattle.download.specs.Turning.{Turned, turned, actedAt, turnBy, turnAfter, turnOf}
 
 -- ---- the line's entries
@@ -43,38 +40,6 @@ pub rest-at : (l : List Passage) (m : ℕ) → restOf (drop m l) ≡ drop (suc m
 rest-at [] m = rw (drop-nil m)
 rest-at (h ∷ l) zero = refl
 rest-at (h ∷ l) (suc m) = rest-at l m
-
--- ---- one sending
-
-module _ (g : Given) (y : Station) (q : List ℕ) where
-  abbrev pub stationAfter : Passage → Station
-  stationAfter p = line.printerAfter (hears g) (steps g) p y q
-
-  -- the printer is as the line's definition has it, and so is what comes back
-  pub record Sent (p : Passage) (z : Stepped) : Type 0 where
-    pub back : ℕ
-    pub heard : z ≡ stepped (record { station = stationAfter p; reply = back })
-    pub reply : take back (stationAfter p .buffer) ≡ line.replyAfter (hears g) (steps g) p y q
-
-  module _ (u : printer.verdictOf (g .diagnosis) y ≡ fine) where
-    abbrev number : ℕ
-    number = getD (g .notYet) (y .printer .writes) 0
-
-    heard-so : stepOf (g .diagnosis) number q y ≡ stepped (hear (g .diagnosis) number q y)
-    unfolding stepOf
-    heard-so = rw u
-
-    pub sent-so : (entry : ℕ) → Sent (passageBy entry) (sentBy (passageBy entry) q (g .notYet) (g .diagnosis) y)
-    sent-so entry =
-        by-pick (λ p. Sent p (sentBy p q (g .notYet) (g .diagnosis) y)) (eqb entry 1) (λ _. record { back = 0; heard = refl; reply = refl }) (λ _.
-        by-pick (λ p. Sent p (sentBy p q (g .notYet) (g .diagnosis) y)) (eqb entry 2) (λ _. record { back = 0; heard = ap unanswered heard-so; reply = refl }) (λ _.
-        record { back = hear (g .diagnosis) number q y .reply; heard = heard-so; reply = refl }))
-
-    pub station-after : (entry : ℕ) → printer.verdictOf (g .diagnosis) (stationAfter (passageBy entry)) ≡ fine
-    station-after entry =
-        let heard = station-kept (g .diagnosis) number q y u in
-        by-pick (λ p. printer.verdictOf (g .diagnosis) (stationAfter p) ≡ fine) (eqb entry 1) (λ _. u) (λ _.
-        by-pick (λ p. printer.verdictOf (g .diagnosis) (stationAfter p) ≡ fine) (eqb entry 2) (λ _. heard) (λ _. heard))
 
 -- ---- one turn, from what `send` and the controller's step answered
 

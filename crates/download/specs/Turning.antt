@@ -12,7 +12,7 @@ use Rattle.protocol.specs.declared.controller.Settings.{Settings}
 use Rattle.protocol.specs.declared.printer.Printer.{Printer}
 use Rattle.protocol.specs.declared.printer.Reaction.{Reaction}
 use Rattle.protocol.specs.declared.printer.Reaction.the-variants as reaction
-use Rattle.download.specs.Sending.{sentOf}
+use Rattle.sending.specs.Sending.{sentOf}
 use Rattle.download.specs.declared.running.Stage.{Stage}
 
 -- what the controller does next, and all that is lent then

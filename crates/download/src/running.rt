@@ -9,9 +9,6 @@ ghost use Rattle.protocol.specs.Controller as controller-step;
 ghost use Rattle.protocol.specs.declared.controller.Controller.the-variants as state;
 ghost use Rattle.protocol.specs.Download.{leaving, verdictOf, downloadOf};
 ghost use Rattle.download.specs.Turning.{turned, turnOf};
-use crate::checking::usable;
-use crate::sending::at;
-use crate::sending::send;
 use protocol::Action;
 use protocol::Check;
 use protocol::Controller;
@@ -47,7 +44,7 @@ fn turn(
         ≡ turnOf settings (now (book .entry)) entry (now («not_yet» .entry)) (now (diagnosis .entry)) controller count (printer-step.lending printer (now (lengths .entry)) (now (bodies .entry)) (now (reply .entry))) (now (request .entry)) ⌝ }
 {
     let end = count as usize;
-    let reaction = send(
+    let reaction = sending::send(
         entry,
         &request[..end],
         printer,
@@ -112,7 +109,7 @@ fn until_ended(
                 controller,
                 request: count,
             } => {
-                let entry = at(line, sent as usize);
+                let entry = sending::at(line, sent as usize);
                 now = turn(
                     settings,
                     book,
@@ -149,7 +146,7 @@ pub fn run(
     ensures { λ r. ⌜ leaving r (now (lengths .exit)) (now (bodies .exit)) (now (reply .exit)) (now (request .exit))
         ≡ downloadOf settings (now (book .entry)) (now (line .entry)) (now («not_yet» .entry)) (now (diagnosis .entry)) (printer-step.lending printer (now (lengths .entry)) (now (bodies .entry)) (now (reply .entry))) (now (request .entry)) ⌝ }
 {
-    let verdict = usable(
+    let verdict = download_check::usable(
         settings,
         book,
         line,

@@ -1,12 +1,12 @@
--- `download::sending::at` meets its contract.
+-- `sending::at` meets its contract.
 use Prim.Native.Nat.{ℕ, zero, suc, _≤_}
 use mathlib.Core.Path.{_≡_, refl, sym}
 use mathlib.Core.List.{List, [], _∷_}
 use native.Mathlib.Omega.{arith}
 use lib.ListN.{length, getD}
 use borrow.Author.Needs.{needs}
-use Rattle.download.proofs.sending.at.Statement.{statement}
-use Rattle.download.proofs.sending.at.Tie as tie
+use Rattle.sending.proofs.at.Statement.{statement}
+use Rattle.sending.proofs.at.Tie as tie
 
 -- past its end a list has 0
 past : (l : List ℕ) (i : ℕ) → length l ≤ i → getD l i 0 ≡ 0

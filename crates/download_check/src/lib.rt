@@ -1,4 +1,5 @@
-// What is refused before the first sending.
+// What is refused of a download before its first sending (document 01, "Template book, printer, download"), as
+// `protocol` defines it.
 ghost use mathlib.Core.Path.{_≡_};
 ghost use Rattle.protocol.specs.Check.{verdictIn};
 ghost use Rattle.protocol.specs.Controller.{bookVerdict};
