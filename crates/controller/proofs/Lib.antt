@@ -1,3 +1,1 @@
-pub mod Accepted
-pub mod Following
 pub mod Written

@@ -1,26 +1,20 @@
--- What a template of a book is found as, and what a written request is.
-use Prim.Native.Nat.{ℕ, zero, suc, _+_, _-_, _≤_, _<_}
-use mathlib.Core.Path.{_≡_, refl, sym, ap, _∙_}
+-- What a written request is.
+use Prim.Native.Nat.{ℕ, _+_, _≤_}
+use mathlib.Core.Path.{_≡_, refl, sym, _∙_}
 use mathlib.Core.Bool.{Bool, true, false}
-use mathlib.Core.List.{List, [], _∷_}
+use mathlib.Core.List.{List}
 use native.Mathlib.Omega.{arith}
 use lib.Dec.{ltb, leb}
-use lib.ListN.{length, getD, drop, drop-of-length-le}
-use borrow.Author.Tests.{ltb-true, ltb-false, lt-ltb, le-ltb, le-leb, lt-leb}
+use lib.ListN.{length}
+use borrow.Author.Tests.{ltb-true, ltb-false, le-leb, lt-leb}
 use Rattle.octets.specs.Choice.{by-pick}
 use Rattle.octets.specs.Front.{fine, answerBy, heldBy}
 use Rattle.octets.specs.Fixed.{fault-fine}
-use Rattle.octets.specs.Part.{partOf}
-use Rattle.octets.specs.declared.Refusal.{Refusal}
 use Rattle.octets.specs.declared.Written.{Written}
 use Rattle.fdl.specs.Around.{goodFields}
 use Rattle.fdl.specs.Lemmas.Around.{fit}
 use Rattle.fdl.specs.declared.telegram.Format.{Format}
 use Rattle.fdl.specs.declared.telegram.Format.the-variants.{Sd2}
-use Rattle.book.specs.Contents.{Entry, InOrder, templatesOf}
-use Rattle.book.specs.Laws.{templates-in-order, template-is}
-use Rattle.book.specs.Template.{refused, templateOf, startOf}
-use Rattle.book.specs.declared.answers.Template.the-variants.{Is, Refused}
 use Rattle.acyclic.specs.declared.calls.Call.the-variants as call
 use Rattle.content.specs.Fields.{fixedLength}
 use Rattle.content.specs.Laws.{bytes-long}
@@ -35,73 +29,7 @@ use Rattle.protocol.specs.Telegrams.{countedCode}
 use Rattle.protocol.specs.Check.{storedIn}
 use Rattle.protocol.specs.Controller.{acted, leaving}
 use Rattle.protocol.specs.declared.controller.Controller.{Controller}
-use Rattle.controller.specs.Next.{Accepted}
 use Rattle.controller.specs.Sent.{sentBy}
-use Rattle.controller.proofs.Following.{none}
-
--- ---- templates
-
--- the bodies of a book
-sized : (m : ℕ) (ts : List Entry) (i : ℕ) → InOrder m ts → i < length ts → (1 ≤ length (getD ts i none .body)) × (length (getD ts i none .body) ≤ 200)
-sized m [] i o h = absurd (omega arith)
-sized m (t ∷ ts) zero o h = (o .2, o .3)
-sized m (t ∷ ts) (suc i) o h = sized (suc (t .slot)) ts i (o .4) (omega arith)
-
-module _ (s : List ℕ) (k : ℕ) (book : Accepted s) (some : 1 ≤ k) where
-  past : length (templatesOf s) < k → templateOf s k ≡ refused 12
-  unfolding templateOf
-  past h = simp (book, le-ltb _ _ some, lt-ltb _ _ h)
-
-  -- template k, counted from 1
-  abbrev the : Entry
-  the = getD (templatesOf s) (k - 1) none
-
-  there : k ≤ length (templatesOf s) → templateOf s k ≡ Is (the .slot) (startOf s (k - 1)) (length (the .body))
-  there h =
-      let i : suc (k - 1) ≡ k = omega arith in
-      ap (templateOf s) (sym i) ∙ template-is s book none (k - 1) (omega arith) .is
-
-  -- what is found is in the book, and is that template
-  pub record Holds (x start len : ℕ) : Type 0 where
-    pub most : k ≤ length (templatesOf s)
-    pub slot : x ≡ the .slot
-    pub long : len ≡ length (the .body)
-    pub part : partOf s start len ≡ the .body
-    pub nonempty : 1 ≤ length (the .body)
-    pub short : length (the .body) ≤ 200
-
-  pub holds : {x start len : ℕ} → templateOf s k ≡ Is x start len → Holds x start len
-  holds {x} {start} {len} e = by (ltb (length (templatesOf s)) k) refl
-    where
-      by : (b : Bool) → ltb (length (templatesOf s)) k ≡ b → Holds x start len
-      by true g = let p = past (ltb-true _ _ g) in absurd (let z : _≡_ {A = ℕ} 0 1 = cc in omega arith)
-      by false g =
-          let most : k ≤ length (templatesOf s) = ltb-false _ _ g in
-          let inside : k - 1 < length (templatesOf s) = omega arith in
-          let f = template-is s book none (k - 1) inside in
-          let same : Is x start len ≡ Is (the .slot) (startOf s (k - 1)) (length (the .body)) = sym e ∙ there most in
-          let slot : x ≡ the .slot = cc in
-          let begins : start ≡ startOf s (k - 1) = cc in
-          let long : len ≡ length (the .body) = cc in
-          let z = sized 0 (templatesOf s) (k - 1) (templates-in-order s book .0) inside in
-          record {
-            most = most;
-            slot = slot;
-            long = long;
-            part = ap (λ (n : ℕ). partOf s n len) begins ∙ ap (partOf s (startOf s (k - 1))) long ∙ f .part;
-            nonempty = z .0;
-            short = z .1;
-          }
-
-  -- where none is found, none is left
-  pub none-left : {r : Refusal} → templateOf s k ≡ Refused r → drop (k - 1) (templatesOf s) ≡ []
-  none-left {r} e = by (ltb (length (templatesOf s)) k) refl
-    where
-      by : (b : Bool) → ltb (length (templatesOf s)) k ≡ b → drop (k - 1) (templatesOf s) ≡ []
-      by true g = drop-of-length-le (templatesOf s) {i = k - 1} (omega (arith, ltb-true (length (templatesOf s)) k g))
-      by false g = let p = there (ltb-false _ _ g) in absurd (let z : _≡_ {A = ℕ} 0 1 = cc in omega arith)
-
--- ---- requests
 
 -- a telegram that may be written has at most 255 bytes
 module _ (f : Format) (da sa fc : ℕ) (c : Content) (part : List ℕ) (e : verdictOf f da sa fc c part ≡ fine) where

@@ -51,7 +51,7 @@ pub fn usable(
 ) -> Check
     ensures { λ r. ⌜ verdictIn r ≡ verdictOf settings (now (book .entry)) (now (line .entry)) (now (diagnosis .entry)) (printer-step.lending printer (now (lengths .entry)) (now (bodies .entry)) (now (reply .entry))) (now (request .entry)) ⌝ }
 {
-    let set = controller::usable(settings);
+    let set = controller_state::usable(settings);
     if let Check::Refused(number) = set {
         return Check::Refused(number);
     }

@@ -4,8 +4,8 @@ use mathlib.Core.List.{List}
 use Prim.Native.Nat.{ℕ}
 use denote.Ref.{now}
 use Rattle.book.specs.Contents.{templatesOf}
-use Rattle.controller.proofs.Following.{left-from}
-use Rattle.controller.proofs.Written.{Holds, holds, none-left, write-may}
+use Rattle.controller_state.specs.Templates.{left-from, Holds, holds, none-left}
+use Rattle.controller.proofs.Written.{write-may}
 use borrow.Author.Needs.{needs}
 use Rattle.controller.proofs.requests.put_write.Statement.{statement}
 use Rattle.controller.proofs.requests.put_write.Tie as tie
