@@ -4,10 +4,10 @@ use mathlib.Core.List.{List}
 use Rattle.protocol.specs.Controller.{Acted, leaving, stepOf}
 use Rattle.protocol.specs.declared.controller.Action.{Action}
 use Rattle.protocol.specs.declared.controller.Action.the-variants as action
-use Rattle.states.specs.ControllerState.{settingsIn, controllerIn, controllerBytes}
-use Rattle.states.specs.Endings.{endingBytes, goingOn}
-use Rattle.states.specs.declared.controller_state.ControllerFound.{ControllerFound}
-use Rattle.states.specs.declared.controller_state.ControllerFound.the-variants as found
+use Rattle.controller_bytes.specs.State.{settingsIn, controllerIn, controllerBytes}
+use Rattle.controller_bytes.specs.Endings.{endingBytes, goingOn}
+use Rattle.controller_bytes.specs.declared.state.ControllerFound.{ControllerFound}
+use Rattle.controller_bytes.specs.declared.state.ControllerFound.the-variants as found
 
 abbrev pub stepFrom : ControllerFound → (settings book reply request : List ℕ) → Acted
 stepFrom (found.Is o) settings book reply request = stepOf (settingsIn settings) book o reply request

@@ -5,11 +5,11 @@ use Rattle.protocol.specs.Printer.{lending}
 use Rattle.protocol.specs.Download.{Whole, leaving, downloadOf}
 use Rattle.protocol.specs.declared.download.Downloaded.{Downloaded}
 use Rattle.protocol.specs.declared.download.Downloaded.the-variants as downloaded
-use Rattle.states.specs.PrinterState.{printerIn, printerBytes}
-use Rattle.states.specs.ControllerState.{settingsIn}
-use Rattle.states.specs.Endings.{endingBytes}
-use Rattle.states.specs.declared.printer_state.PrinterFound.{PrinterFound}
-use Rattle.states.specs.declared.printer_state.PrinterFound.the-variants as found
+use Rattle.printer_bytes.specs.State.{printerIn, printerBytes}
+use Rattle.printer_bytes.specs.declared.state.PrinterFound.{PrinterFound}
+use Rattle.printer_bytes.specs.declared.state.PrinterFound.the-variants as found
+use Rattle.controller_bytes.specs.State.{settingsIn}
+use Rattle.controller_bytes.specs.Endings.{endingBytes}
 
 abbrev pub downloadTo : PrinterFound → (settings book line notYet diagnosis lengths bodies reply request : List ℕ) → Whole
 downloadTo (found.Is p) settings book line notYet diagnosis lengths bodies reply request =

@@ -4,9 +4,9 @@ use mathlib.Core.List.{List}
 use Rattle.protocol.specs.Printer.{Stepped, lending, leaving, stepOf}
 use Rattle.protocol.specs.declared.printer.Reaction.{Reaction}
 use Rattle.protocol.specs.declared.printer.Reaction.the-variants as reaction
-use Rattle.states.specs.PrinterState.{printerIn, printerBytes}
-use Rattle.states.specs.declared.printer_state.PrinterFound.{PrinterFound}
-use Rattle.states.specs.declared.printer_state.PrinterFound.the-variants as found
+use Rattle.printer_bytes.specs.State.{printerIn, printerBytes}
+use Rattle.printer_bytes.specs.declared.state.PrinterFound.{PrinterFound}
+use Rattle.printer_bytes.specs.declared.state.PrinterFound.the-variants as found
 
 abbrev pub stepFrom : PrinterFound → (telegram diagnosis : List ℕ) (notYet : ℕ) (lengths bodies reply : List ℕ) → Stepped
 stepFrom (found.Is p) telegram diagnosis notYet lengths bodies reply = stepOf diagnosis notYet telegram (lending p lengths bodies reply)

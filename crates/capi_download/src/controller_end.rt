@@ -1,13 +1,13 @@
 // The controller's step through the C interface.
 ghost use mathlib.Core.Path.{_≡_};
 ghost use Rattle.capi_download.specs.ControllerEnd.{controllerStep, refusalIn, stateAfter, storedAfter, endingAfter};
+use controller_bytes::ControllerFound;
+use controller_bytes::controller_in;
+use controller_bytes::put_controller;
+use controller_bytes::put_ending;
+use controller_bytes::put_going_on;
+use controller_bytes::settings_in;
 use protocol::Action;
-use states::ControllerFound;
-use states::controller_in;
-use states::put_controller;
-use states::put_ending;
-use states::put_going_on;
-use states::settings_in;
 
 // Stores the controller after a step, the length of its request and how the download stands, and answers the
 // refusal, 0 for none.

@@ -1,12 +1,12 @@
 // The whole download through the C interface.
 ghost use mathlib.Core.Path.{_≡_};
 ghost use Rattle.capi_download.specs.Joined.{downloadBetween, refusalIn, stateAfter, endingAfter, sendingsAfter};
+use controller_bytes::put_ending;
+use controller_bytes::settings_in;
+use printer_bytes::PrinterFound;
+use printer_bytes::printer_in;
+use printer_bytes::put_printer;
 use protocol::Downloaded;
-use states::PrinterFound;
-use states::printer_in;
-use states::put_ending;
-use states::put_printer;
-use states::settings_in;
 
 // Stores how a download ended, after how many sendings, and the printer then, and answers the refusal, 0 for
 // none.

@@ -1,10 +1,10 @@
 // The printer's step through the C interface.
 ghost use mathlib.Core.Path.{_≡_};
 ghost use Rattle.capi_download.specs.PrinterEnd.{printerStep, refusalIn, stateAfter, sentAfter};
+use printer_bytes::PrinterFound;
+use printer_bytes::printer_in;
+use printer_bytes::put_printer;
 use protocol::Reaction;
-use states::PrinterFound;
-use states::printer_in;
-use states::put_printer;
 
 // Stores the printer after a step and how many bytes it sends back, and answers the refusal, 0 for none.
 fn put_reaction(reaction: Reaction, state: &mut [u8; 11], sent: &mut usize) -> u8

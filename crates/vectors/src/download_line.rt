@@ -16,7 +16,7 @@ use protocol::Settings;
 
 fn ending_fields(how: Ending) {
     let mut ending = [0u8; 4];
-    states::put_ending(how, &mut ending);
+    controller_bytes::put_ending(how, &mut ending);
     byte_field(ending[0]);
     byte_field(ending[1]);
     byte_field(ending[2]);
