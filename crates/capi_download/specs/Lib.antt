@@ -1,3 +1,1 @@
-pub mod PrinterEnd
-pub mod ControllerEnd
 pub mod Joined

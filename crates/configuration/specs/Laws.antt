@@ -8,10 +8,11 @@ use native.Mathlib.Nat.{zero-add}
 use lib.ListN.{length, getD, take}
 use Rattle.octets.specs.Choice.{never}
 use Rattle.octets.specs.Bytes.{Bytes}
+use Rattle.octets.specs.declared.Refusal.{Refusal}
 use Rattle.octets.specs.Front.{fine}
 use Rattle.octets.specs.Fixed.{fault-fine}
 use Rattle.configuration.specs.Walk.{Walk, end, bad, more, nextOf, walkOf}
-use Rattle.configuration.specs.Reading.{inputOf, outputOf, totalsOf, readOf, inputOffsets, outputOffsets}
+use Rattle.configuration.specs.Reading.{inputOf, outputOf, totalsOf, readOf, offsetsOf, listBy, inputOffsets, outputOffsets}
 use Rattle.configuration.specs.Writing.{moduleVerdict, moduleBytes, verdictIn, verdictOf}
 use Rattle.configuration.specs.Contents.{Reads, Again, Says, accepted, endsWell, walkBytes, walkVerdict, Whole, inputLengths, outputLengths, sumOf}
 use Rattle.configuration.specs.Lemmas.Steps.{says}
@@ -128,3 +129,8 @@ offsets-are-sums s e k h =
       input-ends = omega (arith, a, t .inputs, sum-front (inputLengths s) k);
       output-ends = omega (arith, b, t .outputs, sum-front (outputLengths s) k);
     }
+
+-- A refusal stores no offset, of whichever list they are.
+pub refused-stores-nothing : (s offsets before : List ℕ) (inputs outputs : ℕ) {r : Refusal} → offsetsOf s inputs outputs ≡ Refused r
+    → listBy (offsetsOf s inputs outputs) offsets before ≡ before
+refused-stores-nothing s offsets before inputs outputs e = ap (λ (x : Reading). listBy x offsets before) e

@@ -4,6 +4,7 @@ ghost use Prim.Native.Nat.{_+_, _≤_};
 ghost use lib.ListN.{length};
 ghost use Rattle.function_code.specs.Code.{classOf};
 ghost use Rattle.fdl.specs.Reading.{extensionOf, sourceOf, destinationOf, fieldsOf, framedOf, sd2Of, tokenOf, readOf};
+ghost use Rattle.fdl_reader.specs.Leading.{Leads};
 use fdl::Extension;
 use fdl::Format;
 use fdl::Header;
@@ -13,6 +14,16 @@ use fdl::checksum;
 use fdl::sap_length;
 use function_code::reserved;
 use octets::Refusal;
+
+// What the bytes in front of DA say: where DA stands and how many bytes the PDU has, or all that is read.
+enum Leading {
+    Framed {
+        format: Format,
+        at: usize,
+        pdu: usize,
+    },
+    Is(Reading),
+}
 
 // The access point that belongs to an address byte, of a PDU of which len bytes from start are left.
 fn access_point(s: &[u8], address: u8, start: usize, len: usize) -> Extension
@@ -117,26 +128,30 @@ fn framed(s: &[u8], format: Format, at: usize, pdu: usize) -> Reading
 }
 
 // The four leading bytes of SD2.
-fn sd2(s: &[u8]) -> Reading
-    ensures { λ r. ⌜ r ≡ sd2Of classOf (now (s .entry)) ⌝ }
+fn sd2(s: &[u8]) -> Leading
+    ensures { λ r. ⌜ Leads (now (s .entry)) (sd2Of classOf (now (s .entry))) r ⌝ }
 {
     if s.len() < 4 {
-        return Reading::Refused(Refusal { number: 1 });
+        return Leading::Is(Reading::Refused(Refusal { number: 1 }));
     }
     let le = s[1];
     if le < 4 {
-        return Reading::Refused(Refusal { number: 3 });
+        return Leading::Is(Reading::Refused(Refusal { number: 3 }));
     }
     if 249 < le {
-        return Reading::Refused(Refusal { number: 3 });
+        return Leading::Is(Reading::Refused(Refusal { number: 3 }));
     }
     if s[2] != le {
-        return Reading::Refused(Refusal { number: 3 });
+        return Leading::Is(Reading::Refused(Refusal { number: 3 }));
     }
     if s[3] != 0x68 {
-        return Reading::Refused(Refusal { number: 3 });
+        return Leading::Is(Reading::Refused(Refusal { number: 3 }));
     }
-    framed(s, Format::Sd2, 4, le as usize - 3)
+    Leading::Framed {
+        format: Format::Sd2,
+        at: 4,
+        pdu: le as usize - 3,
+    }
 }
 
 // A token's addresses, bit 7 counted.
@@ -160,26 +175,46 @@ fn token(s: &[u8]) -> Reading
     Reading::Token { da, sa }
 }
 
-// Reads a telegram: all of the lent slice is one.
+// What the bytes in front of DA say.
+fn leading_bytes(s: &[u8]) -> Leading
+    ensures { λ r. ⌜ Leads (now (s .entry)) (readOf (now (s .entry))) r ⌝ }
+{
+    if s.len() == 0 {
+        return Leading::Is(Reading::Refused(Refusal { number: 1 }));
+    }
+    let start = s[0];
+    match start {
+        0x10 => Leading::Framed {
+            format: Format::Sd1,
+            at: 1,
+            pdu: 0,
+        },
+        0x68 => sd2(s),
+        0xA2 => Leading::Framed {
+            format: Format::Sd3,
+            at: 1,
+            pdu: 8,
+        },
+        0xDC => Leading::Is(token(s)),
+        0xE5 => {
+            if s.len() == 1 {
+                Leading::Is(Reading::Confirmation)
+            } else {
+                Leading::Is(Reading::Refused(Refusal { number: 4 }))
+            }
+        }
+        _ => Leading::Is(Reading::Refused(Refusal { number: 2 })),
+    }
+}
+
+// Reads a telegram: all of the lent slice is one. The frame is looked at in one place, for all formats: called
+// once, it is compiled into this function, and its answer is not copied.
 pub fn read(bytes: &[u8]) -> Reading
     ensures { λ r. ⌜ r ≡ readOf (now (bytes .entry)) ⌝ }
 {
-    if bytes.len() == 0 {
-        return Reading::Refused(Refusal { number: 1 });
-    }
-    let start = bytes[0];
-    match start {
-        0x10 => framed(bytes, Format::Sd1, 1, 0),
-        0x68 => sd2(bytes),
-        0xA2 => framed(bytes, Format::Sd3, 1, 8),
-        0xDC => token(bytes),
-        0xE5 => {
-            if bytes.len() == 1 {
-                Reading::Confirmation
-            } else {
-                Reading::Refused(Refusal { number: 4 })
-            }
-        }
-        _ => Reading::Refused(Refusal { number: 2 }),
+    let found = leading_bytes(bytes);
+    match found {
+        Leading::Framed { format, at, pdu } => framed(bytes, format, at, pdu),
+        Leading::Is(reading) => reading,
     }
 }

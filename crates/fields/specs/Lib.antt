@@ -1,2 +1,3 @@
+pub mod Kinds
 pub mod Dpv1
 pub mod Outcome

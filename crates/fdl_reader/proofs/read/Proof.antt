@@ -1,73 +1,40 @@
--- `fdl_reader::read` meets its contract. The definition goes by the same start bytes.
-use borrow.Author.Tests.{eq-eqb, ne-eqb}
-use Rattle.fdl.specs.Reading.{readBy}
+-- `fdl_reader::read` meets its contract, by what the leading bytes say.
+use mathlib.Core.Path.{_≡_, _∙_, subst}
+use denote.Ref.{now}
+use Rattle.fdl.specs.Reading.{readOf}
+use Rattle.fdl_reader.specs.Leading.{Leads}
+use Rattle.fdl_reader.specs.declared.Leading.{Leading}
 use borrow.Author.Needs.{needs}
 use Rattle.fdl_reader.proofs.read.Statement.{statement}
 use Rattle.fdl_reader.proofs.read.Tie as tie
 
-returns : tie.Need-returns
-unfolding readBy
-returns c = simp (eq-eqb _ _ (c .if1 .taken))
+abbrev entry : tie.After-leading-bytes → tie.Start
+entry c = c .before .before
 
-shared-slice-read-start : tie.Need-shared-slice-read-start
-shared-slice-read-start c = search needs
+-- what holds of the leading bytes, by their case
+led : (c : tie.After-leading-bytes) {l : Leading} → c .leading-bytes .result ≡ l → let s = now (entry c .args .bytes) in Leads s (readOf s) l
+led c e = let s = now (entry c .args .bytes) in subst (Leads s (readOf s)) e (c .leading-bytes .ensures)
+
+leading-bytes-requires : tie.Need-leading-bytes-requires
+leading-bytes-requires c κs = search needs
+
+enum-known-found : tie.Need-enum-known-found
+enum-known-found c = search needs
 
 framed-requires : tie.Need-framed-requires
-framed-requires c κs = search needs
+framed-requires c κs =
+    let k = c .before in
+    let l = led (k .before .before) (k .found .given .1) in
+    (l .1, l .2)
 
-sd2-requires : tie.Need-sd2-requires
-sd2-requires c κs = search needs
+enum-known-found-2 : tie.Need-enum-known-found-2
+enum-known-found-2 c = search needs
 
-framed-requires-2 : tie.Need-framed-requires-2
-framed-requires-2 c κs = search needs
-
-token-requires : tie.Need-token-requires
-token-requires c κs = search needs
+returns : tie.Need-returns
+returns c = let k = c .before .before in c .framed .ensures ∙ led (k .before .before) (k .found .given .1) .0
 
 returns-2 : tie.Need-returns-2
-unfolding readBy
-returns-2 c = simp (ne-eqb _ _ (c .before .before .before .if1 .left), c .before .match .keys1) (c .framed .ensures)
-
-returns-3 : tie.Need-returns-3
-unfolding readBy
-returns-3 c = simp (ne-eqb _ _ (c .before .before .before .if1 .left), c .before .match .keys2) (c .sd2 .ensures)
-
-returns-4 : tie.Need-returns-4
-unfolding readBy
-returns-4 c = simp (ne-eqb _ _ (c .before .before .before .if1 .left), c .before .match .keys3) (c .framed2 .ensures)
-
-returns-5 : tie.Need-returns-5
-unfolding readBy
-returns-5 c = simp (ne-eqb _ _ (c .before .before .before .if1 .left), c .before .match .keys4) (c .token .ensures)
-
-returns-6 : tie.Need-returns-6
-unfolding readBy
-returns-6 c = simp (ne-eqb _ _ (c .before .before .before .if1 .left), c .before .match .keys5, eq-eqb _ _ (c .if2 .taken))
-
-returns-7 : tie.Need-returns-7
-unfolding readBy
-returns-7 c = simp (ne-eqb _ _ (c .before .before .before .if1 .left), c .before .match .keys5, ne-eqb _ _ (c .if2 .left))
-
-returns-8 : tie.Need-returns-8
-unfolding readBy
-returns-8 c =
-    let r = c .match .rest in
-    simp (ne-eqb _ _ (c .before .before .if1 .left), ne-eqb _ _ (r .1), ne-eqb _ _ (r .0 .1), ne-eqb _ _ (r .0 .0 .1), ne-eqb _ _ (r .0 .0 .0 .1), ne-eqb _ _ (r .0 .0 .0 .0 .1))
+returns-2 c = let k = c .before in led (k .before .before) (k .found2 .given .1)
 
 pub read-spec : {M : Type 1} → statement M
-read-spec =
-    tie.close
-    (tie.spec
-    returns
-    shared-slice-read-start
-    framed-requires
-    sd2-requires
-    framed-requires-2
-    token-requires
-    returns-2
-    returns-3
-    returns-4
-    returns-5
-    returns-6
-    returns-7
-    returns-8)
+read-spec = tie.close (tie.spec leading-bytes-requires enum-known-found framed-requires enum-known-found-2 returns returns-2)

@@ -1,4 +1,5 @@
 -- `fdl_reader::sd2` meets its contract. The definition has the same tests in the same order.
+use native.Mathlib.Omega.{arith}
 use Rattle.fdl.specs.Reading.{sd2Of}
 use borrow.Author.Tests.{lt-ltb, le-ltb, eq-eqb, ne-eqb}
 use borrow.Author.Needs.{needs}
@@ -37,28 +38,27 @@ returns-5 c =
     let a = b .before .before in
     simp (le-ltb _ _ (a .before .before .before .if1 .left), le-ltb _ _ (a .before .if2 .left), le-ltb _ _ (a .if3 .left), eq-eqb _ _ (b .if4 .left), ne-eqb _ _ (c .if5 .taken))
 
-cast-framed : tie.Need-cast-framed
-cast-framed c = search needs
+cast-t3 : tie.Need-cast-t3
+cast-t3 c = search needs
 
-sub-framed : tie.Need-sub-framed
-sub-framed c = search needs
-
-framed-requires : tie.Need-framed-requires
-framed-requires c κs = search needs
+sub-t20 : tie.Need-sub-t20
+sub-t20 c = search needs
 
 returns-6 : tie.Need-returns-6
 unfolding sd2Of
 returns-6 c =
-    let b = c .before .before .before in
-    let a = b .before .before in
-    simp (
-      le-ltb _ _ (a .before .before .before .if1 .left),
-      le-ltb _ _ (a .before .if2 .left),
-      le-ltb _ _ (a .if3 .left),
-      eq-eqb _ _ (b .if4 .left),
-      eq-eqb _ _ (c .before .if5 .left),
+    let b = c .before .before in
+    let a = b .before .before in (
+      simp (
+        le-ltb _ _ (a .before .before .before .if1 .left),
+        le-ltb _ _ (a .before .if2 .left),
+        le-ltb _ _ (a .if3 .left),
+        eq-eqb _ _ (b .if4 .left),
+        eq-eqb _ _ (c .if5 .left),
+      ),
+      omega arith,
+      omega (arith, a .if3 .left),
     )
-    (c .framed .ensures)
 
 pub sd2-spec : {M : Type 1} → statement M
 sd2-spec =
@@ -72,7 +72,6 @@ sd2-spec =
     returns-4
     shared-slice-read-if5
     returns-5
-    cast-framed
-    sub-framed
-    framed-requires
+    cast-t3
+    sub-t20
     returns-6)

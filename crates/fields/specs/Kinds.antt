@@ -1,0 +1,19 @@
+-- Kinds of telegram as numbers: 0 a short confirmation, 1 a token, and then the three formats.
+use Prim.Native.Nat.{ℕ}
+use lib.Dec.{eqb}
+use Rattle.octets.specs.Choice.{pick}
+use Rattle.fdl.specs.declared.telegram.Format.{Format}
+use Rattle.fdl.specs.declared.telegram.Format.the-variants.{Sd1, Sd2, Sd3}
+use Rattle.fields.specs.declared.kinds.Kind.{Kind}
+use Rattle.fields.specs.declared.kinds.Kind.the-variants as kind
+
+abbrev pub formatNumber : Format → ℕ
+formatNumber Sd1 = 2
+formatNumber Sd2 = 3
+formatNumber Sd3 = 4
+
+abbrev pub kindOf : ℕ → Kind
+kindOf n =
+    pick (eqb n 0) kind.Confirmation
+    (pick (eqb n 1) kind.Token
+    (pick (eqb n 2) (kind.Telegram Sd1) (pick (eqb n 3) (kind.Telegram Sd2) (pick (eqb n 4) (kind.Telegram Sd3) kind.Unknown))))
