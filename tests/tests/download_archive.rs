@@ -9,6 +9,7 @@
 #[allow(dead_code)]
 mod archive;
 mod controller_side;
+mod download_side;
 // A download is no writing.
 #[allow(dead_code)]
 mod memory;
@@ -16,9 +17,9 @@ mod printer_side;
 mod tally;
 
 use archive::Outcome::{self, Accepted, Refused};
-use controller_side::{settings_of, Standing, GOES_ON};
+use controller_side::{Standing, GOES_ON};
 use memory::{Buffer, Count, Lent};
-use printer_side::{any_buffer_too_short, Bodies, Given, Lengths, State, Station};
+use printer_side::{any_buffer_too_short, Given, Station};
 use printer_side::{NO_PRINTERS, NO_ROOM, NO_STATES};
 use rabtunex_tests::random::Random;
 use rabtunex_tests::reference::download::{self, Plan, REPLY_LOST, REQUEST_LOST, THROUGH};
@@ -78,58 +79,15 @@ impl Memory {
     }
 }
 
-extern "C" {
-    fn rabtunex_download(
-        settings: *const [u8; 4],
-        book: *const u8,
-        book_len: usize,
-        line: *const u8,
-        line_len: usize,
-        not_yet: *const u8,
-        not_yet_len: usize,
-        diagnosis: *const u8,
-        diagnosis_len: usize,
-        state: *mut State,
-        lengths: *mut Lengths,
-        bodies: *mut Bodies,
-        reply: *mut u8,
-        reply_len: usize,
-        request: *mut u8,
-        request_len: usize,
-        ending: *mut Standing,
-        sendings: *mut usize,
-    ) -> u8;
-}
-
-/// The library's download: 0 or the refusal number.
-#[allow(unsafe_code)]
+/// The library's download, done in place: 0 or the refusal number.
 fn run_library(plan: &Plan<'_>, memory: &mut Memory) -> u8 {
-    let (state, lengths, bodies, reply) = memory.station.lent();
-    let request = memory.request.lent();
-    // SAFETY: all come from references, which an empty slice has too: none is
-    // null, each leads to its length, and those written to overlap nothing.
-    unsafe {
-        rabtunex_download(
-            &settings_of(&plan.settings),
-            plan.book.as_ptr(),
-            plan.book.len(),
-            plan.line.as_ptr(),
-            plan.line.len(),
-            plan.not_yet.as_ptr(),
-            plan.not_yet.len(),
-            plan.diagnosis.as_ptr(),
-            plan.diagnosis.len(),
-            state,
-            lengths,
-            bodies,
-            reply.as_mut_ptr(),
-            reply.len(),
-            request.as_mut_ptr(),
-            request.len(),
-            &mut memory.standing.fields,
-            memory.sendings.lent(),
-        )
-    }
+    download_side::run(
+        plan,
+        &mut memory.station,
+        memory.request.lent(),
+        &mut memory.standing.fields,
+        memory.sendings.lent(),
+    )
 }
 
 /// The reference's download, done in place.
