@@ -1,4 +1,4 @@
-//! Links the proved library into the integration tests and into nothing else:
+//! Links the proved library into the integration tests and the benchmark alone:
 //! the `reference` command and the unit tests build without it.
 
 use std::env;
@@ -19,4 +19,5 @@ fn main() {
     println!("cargo:rerun-if-changed={archive}");
     println!("cargo:rustc-link-arg-tests={archive}");
     println!("cargo:rustc-env=RABTUNEX_ARCHIVE_FILE={archive}");
+    println!("cargo:rustc-link-arg-benches={archive}");
 }

@@ -114,6 +114,12 @@ impl Saps {
         ssap: false,
     };
 
+    /// Both.
+    pub const BOTH: Saps = Saps {
+        dsap: true,
+        ssap: true,
+    };
+
     /// None, either, both.
     pub const ALL: [Saps; 4] = [
         Saps::NONE,
@@ -125,10 +131,7 @@ impl Saps {
             dsap: false,
             ssap: true,
         },
-        Saps {
-            dsap: true,
-            ssap: true,
-        },
+        Saps::BOTH,
     ];
 
     /// How many PDU bytes they take.
