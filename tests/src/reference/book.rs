@@ -67,11 +67,16 @@ pub fn template(bytes: &[u8], k: usize) -> Result<Template<'_>, u8> {
 }
 
 /// How many bytes the bodies of a table have together, when it is right.
+///
+/// It has a few pairs at most, and going over all of them costs less than a branch
+/// at each.
 fn judge(table: &[Pair]) -> Result<usize, u8> {
-    let is_pair_right = |[slot, length]: &Pair| *slot <= LAST_SLOT && LENGTHS.contains(length);
-    let is_right = COUNTS.contains(&table.len())
-        && table.iter().all(is_pair_right)
-        && table.is_sorted_by(|[slot, _], [next, _]| slot < next);
+    let mut is_right = COUNTS.contains(&table.len());
+    let mut lowest = 0;
+    for [slot, length] in table {
+        is_right &= (lowest..=LAST_SLOT).contains(slot) & LENGTHS.contains(length);
+        lowest = slot.saturating_add(1);
+    }
     if !is_right {
         return Err(refusal::BOOK_TABLE);
     }

@@ -58,7 +58,7 @@ pub struct Side {
 
 impl Side {
     /// The side that a byte describes, with its units under a mask.
-    fn from_byte(byte: u8, mask: u8) -> Self {
+    const fn from_byte(byte: u8, mask: u8) -> Self {
         Side {
             units: (byte & mask) + 1,
             words: byte & WORDS != 0,
@@ -75,8 +75,8 @@ impl Side {
     }
 
     /// How many bytes it takes among the inputs or outputs.
-    pub fn length(self) -> u16 {
-        u16::from(self.units) << u8::from(self.words)
+    pub const fn length(self) -> u16 {
+        (self.units as u16) << self.words as u8
     }
 }
 
@@ -91,24 +91,76 @@ pub struct Totals {
     pub outputs: u16,
 }
 
-impl Totals {
-    /// No side has more than 128 bytes and no configuration more than 244
-    /// modules, so that the sums stay in range.
-    fn add(&mut self, module: &Module<'_>) {
-        self.modules += 1;
-        self.inputs += module.input.map_or(0, Side::length);
-        self.outputs += module.output.map_or(0, Side::length);
+/// How many bytes a module takes among the inputs and among the outputs.
+type Lengths = [u16; 2];
+
+/// The lengths of each module that is one byte; no other has any here.
+///
+/// The rule worked out at compile time: most modules are such, of one kind or another,
+/// and no two need be alike.
+static ONE_BYTE: [Option<Lengths>; 256] = {
+    let mut table = [None; 256];
+    let mut identifier = 0;
+    while identifier < 256 {
+        table[identifier] = lengths_of_byte(identifier as u8);
+        identifier += 1;
+    }
+    table
+};
+
+const fn lengths_of_byte(identifier: u8) -> Option<Lengths> {
+    let length = Side::from_byte(identifier, NIBBLE).length();
+    match identifier & GENERAL_SIDES {
+        GENERAL_INPUT => Some([length, 0]),
+        GENERAL_OUTPUT => Some([0, length]),
+        GENERAL_SIDES => Some([length, length]),
+        _ if identifier == 0 => Some([0, 0]),
+        _ => None,
     }
 }
 
 /// Reads a configuration and answers its totals, or its refusal number.
 pub fn totals(bytes: &[u8]) -> Result<Totals, u8> {
+    add_up(bytes, |_| {})
+}
+
+/// Reads a configuration and answers its totals; where the bytes of each module
+/// begin, or would begin, goes to the front of the two lists. Answers the
+/// refusal number otherwise, and stores nothing.
+pub fn read(bytes: &[u8], inputs: &mut [u16], outputs: &mut [u16]) -> Result<Totals, u8> {
+    let mut offsets = [[0; 2]; LONGEST_DATA];
+    let mut places = offsets.iter_mut();
+    let totals = add_up(bytes, |before| {
+        if let Some(place) = places.next() {
+            *place = [before.inputs, before.outputs];
+        }
+    })?;
+    let inputs = inputs.get_mut(..totals.modules).ok_or(refusal::OUTPUT)?;
+    let outputs = outputs.get_mut(..totals.modules).ok_or(refusal::OUTPUT)?;
+    for ((input, output), offset) in inputs.iter_mut().zip(outputs).zip(offsets) {
+        [*input, *output] = offset;
+    }
+    Ok(totals)
+}
+
+/// The totals of a right configuration; those before each module go to `seen`.
+///
+/// No side has more than 128 bytes and no configuration more than 244 modules, so
+/// that the sums stay in range.
+fn add_up(bytes: &[u8], mut seen: impl FnMut(&Totals)) -> Result<Totals, u8> {
     if bytes.is_empty() || bytes.len() > LONGEST_DATA {
         return Err(refusal::DATA_LENGTH);
     }
     let mut totals = Totals::default();
-    for module in modules(bytes) {
-        totals.add(&module?);
+    let mut rest = bytes;
+    while let Some((first, after)) = rest.split_first() {
+        seen(&totals);
+        let (lengths, after) = split_lengths(*first, after)?;
+        let [input, output] = lengths;
+        rest = after;
+        totals.modules += 1;
+        totals.inputs += input;
+        totals.outputs += output;
     }
     if usize::from(totals.inputs.max(totals.outputs)) > LONGEST_DATA {
         return Err(refusal::PROCESS_DATA);
@@ -116,32 +168,15 @@ pub fn totals(bytes: &[u8]) -> Result<Totals, u8> {
     Ok(totals)
 }
 
-/// Reads a configuration and answers its totals; where the bytes of each module
-/// begin, or would begin, goes to the front of the two lists. Answers the
-/// refusal number otherwise, and stores nothing.
-pub fn read(bytes: &[u8], inputs: &mut [u16], outputs: &mut [u16]) -> Result<Totals, u8> {
-    let totals = totals(bytes)?;
-    let inputs = inputs.get_mut(..totals.modules).ok_or(refusal::OUTPUT)?;
-    let outputs = outputs.get_mut(..totals.modules).ok_or(refusal::OUTPUT)?;
-    let mut before = Totals::default();
-    // No module is refused any more, so that this does not end half way.
-    for ((module, input), output) in modules(bytes).zip(inputs).zip(outputs) {
-        *input = before.inputs;
-        *output = before.outputs;
-        before.add(&module?);
+/// The lengths of the module that begins with an identifier, and what stands after
+/// it.
+fn split_lengths(identifier: u8, after: &[u8]) -> Result<(Lengths, &[u8]), u8> {
+    if let Some(lengths) = ONE_BYTE[usize::from(identifier)] {
+        return Ok((lengths, after));
     }
-    Ok(totals)
-}
-
-/// The modules of the bytes, the last one refused when it is not right.
-fn modules(bytes: &[u8]) -> impl Iterator<Item = Result<Module<'_>, u8>> {
-    let mut rest = bytes;
-    std::iter::from_fn(move || {
-        let (first, after) = rest.split_first()?;
-        let split = split_module(*first, after);
-        rest = split.map_or(&[], |(_, rest)| rest);
-        Some(split.map(|(module, _)| module))
-    })
+    let (module, rest) = split_module(identifier, after)?;
+    let length = |side: Option<Side>| side.map_or(0, Side::length);
+    Ok(([length(module.input), length(module.output)], rest))
 }
 
 /// The module at a position and the position after it, or nothing at the end of

@@ -168,12 +168,12 @@ pub(super) enum Heard {
 
 impl Heard {
     pub(super) fn of(reply: &[u8], settings: &Settings) -> Self {
-        match telegram::read(reply) {
+        let heard = match telegram::read(reply) {
             Err(_) => return Heard::Nothing,
             Ok(Telegram::ShortConfirmation) => return Heard::Confirmation,
-            Ok(Telegram::Token { .. } | Telegram::Frame { .. }) => {}
-        }
-        match service::read(reply, Mode::Dpv1) {
+            Ok(heard @ (Telegram::Token { .. } | Telegram::Frame { .. })) => heard,
+        };
+        match service::of_telegram(heard, Mode::Dpv1) {
             Ok(ServiceTelegram {
                 format: Format::Sd2,
                 fc: DATA_REPLY,
@@ -199,19 +199,28 @@ pub fn step(
     settings.judge()?;
     let book = book::read(book)?;
     state.judge(settings, &book)?;
+    proceed(settings, &book, state, reply, out)
+}
+
+/// As `step`, of what was judged already.
+pub(super) fn proceed(
+    settings: &Settings,
+    book: &Book<'_>,
+    state: State,
+    reply: &[u8],
+    out: &mut [u8],
+) -> Result<Move, u8> {
     let heard = Heard::of(reply, settings);
     let next = match state {
         State::Fresh => Ok(Request::Opening),
         State::Waiting(Request::Opening) => after_opening(&heard, settings),
         State::Waiting(Request::Write(turn)) => after_write(turn, &heard, settings),
-        State::Waiting(Request::Poll(turn, left)) => {
-            after_poll(turn, left, &heard, settings, &book)
-        }
+        State::Waiting(Request::Poll(turn, left)) => after_poll(turn, left, &heard, settings, book),
     };
     match next {
         Ok(request) => Ok(Move::Send {
             state: State::Waiting(request),
-            length: write(request, settings, &book, out)?,
+            length: write(request, settings, book, out)?,
         }),
         Err(ending) => Ok(Move::End(ending)),
     }

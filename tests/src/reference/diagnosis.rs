@@ -180,7 +180,7 @@ fn judge(header: Header, blocks: &[u8]) -> Result<usize, u8> {
     let mut count = 0;
     let mut rest = blocks;
     while let Some((first, after)) = rest.split_first() {
-        (_, rest) = split_block(*first, after)?;
+        rest = after_block(*first, after)?;
         count += 1;
     }
     if header.has_ext_diag() != (count > 0) {
@@ -223,6 +223,19 @@ fn split_block(header: u8, after: &[u8]) -> Result<(Block<'_>, &[u8]), u8> {
         }
         _ => Err(refusal::BLOCK_HEADER),
     }
+}
+
+/// What stands after the block that begins with a header.
+///
+/// Device and module are one case here: which of them comes next cannot be told
+/// before, and each case costs a branch.
+fn after_block(header: u8, after: &[u8]) -> Result<&[u8], u8> {
+    if header & CHANNEL == 0 {
+        let (_, rest) = split_counted(header, after)?;
+        return Ok(rest);
+    }
+    let (_, rest) = split_block(header, after)?;
+    Ok(rest)
 }
 
 /// Splits after a block whose header counts its bytes.

@@ -1,9 +1,10 @@
 //! A download: the controller's step and the printer's, joined along a line
 //! that may lose what goes over it.
 
+use super::book::{self, Book};
 use super::controller::{self, Ending, Move, Settings, State};
 use super::printer::{self, Printer, Slots, BUFFER_ROOM};
-use super::{book, refusal};
+use super::refusal;
 
 /// An entry of the line: request and reply go through.
 pub const THROUGH: u8 = 0;
@@ -126,12 +127,12 @@ pub(super) fn run_along(
     lent: Lent<'_>,
     mut seen: impl FnMut(&Sending<'_>),
 ) -> Result<Outcome, u8> {
-    plan.judge(&printer, &lent)?;
+    let book = plan.judge(&printer, &lent)?;
     let mut sendings = 0;
     let mut state = State::Fresh;
     let mut arrived: &[u8] = &[];
     let ending = loop {
-        let step = controller::step(&plan.settings, plan.book, state, arrived, lent.request);
+        let step = controller::proceed(&plan.settings, &book, state, arrived, lent.request);
         let (next, length) = match step.expect(JUDGED) {
             Move::Send { state, length } => (state, length),
             Move::End(ending) => break ending,
@@ -169,23 +170,25 @@ fn hear(
     reply: &mut [u8],
 ) -> Option<usize> {
     let not_yet = plan.not_yet_of(printer.writes);
-    let step = printer::step(*printer, slots, plan.diagnosis, bytes, not_yet, reply);
+    let step = printer::hear(*printer, slots, plan.diagnosis, bytes, not_yet, reply);
     let (next, length) = step.expect(JUDGED);
     *printer = next;
     length
 }
 
-impl Plan<'_> {
-    /// Refuses what no download can be made of, in document 01's order.
-    fn judge(&self, printer: &Printer, lent: &Lent<'_>) -> Result<(), u8> {
+impl<'a> Plan<'a> {
+    /// Refuses what no download can be made of, in document 01's order, and answers
+    /// the book.
+    fn judge(&self, printer: &Printer, lent: &Lent<'_>) -> Result<Book<'a>, u8> {
         self.settings.judge()?;
-        book::read(self.book)?;
+        let book = book::read(self.book)?;
         if self.line.iter().any(|entry| *entry > REPLY_LOST) {
             return Err(refusal::FIELD);
         }
         printer::judge(printer, lent.slots, self.diagnosis)?;
         printer::judge_buffer(lent.request)?;
-        printer::judge_buffer(lent.reply)
+        printer::judge_buffer(lent.reply)?;
+        Ok(book)
     }
 
     /// The number of the write that comes after so many.

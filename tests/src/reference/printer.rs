@@ -195,7 +195,19 @@ pub fn step(
 ) -> Result<(Printer, Option<usize>), u8> {
     judge(&state, slots, diagnosis)?;
     judge_buffer(buffer)?;
-    let Ok(Telegram::Frame { da, sa, fc, .. }) = telegram::read(bytes) else {
+    hear(state, slots, diagnosis, bytes, not_yet, buffer)
+}
+
+/// As `step`, of what was judged already.
+pub(super) fn hear(
+    state: Printer,
+    slots: &mut Slots,
+    diagnosis: &[u8],
+    bytes: &[u8],
+    not_yet: u8,
+    buffer: &mut [u8],
+) -> Result<(Printer, Option<usize>), u8> {
+    let Ok(heard @ Telegram::Frame { da, sa, fc, .. }) = telegram::read(bytes) else {
         return Ok((state, None));
     };
     let fcb = fc & telegram::FCB != 0;
@@ -207,13 +219,13 @@ pub fn step(
             (dropped, Reply::Bare(PRESENT))
         }
         Class::Uncounted => return Ok((dropped, None)),
-        Class::Opening => (dropped.opened(sa), answer_opening(diagnosis, fc, bytes)),
+        Class::Opening => (dropped.opened(sa), answer_opening(diagnosis, fc, heard)),
         Class::Counted if (sa, fcb) == (state.sa, state.fcb) => {
             return Ok((state, state.held_length()));
         }
         Class::Counted => {
             let mut next = Printer { sa, fcb, ..state };
-            let reply = next.perform(slots, diagnosis, fc, bytes, not_yet);
+            let reply = next.perform(slots, diagnosis, fc, heard, not_yet);
             (next, reply)
         }
     };
@@ -244,11 +256,11 @@ pub(super) fn judge_buffer(buffer: &[u8]) -> Result<(), u8> {
 
 /// What an opening or new call asks for and its lent part, or the bare reply
 /// when that cannot be told.
-fn read_call(fc: u8, bytes: &[u8]) -> Result<(Content, &[u8]), Reply<'static>> {
+fn read_call(fc: u8, heard: Telegram<'_>) -> Result<(Content, &[u8]), Reply<'static>> {
     if !matches!(fc & telegram::FUNCTION, SRD_LOW | SRD_HIGH) {
         return Err(Reply::Bare(NO_SERVICE));
     }
-    match service::read(bytes, Mode::Dpv1) {
+    match service::of_telegram(heard, Mode::Dpv1) {
         Ok(call) => Ok((call.content, call.part)),
         Err(refusal::SERVICE) => Err(Reply::Bare(NO_SERVICE)),
         Err(_) => Err(Reply::Bare(UNDECODABLE)),
@@ -256,8 +268,8 @@ fn read_call(fc: u8, bytes: &[u8]) -> Result<(Content, &[u8]), Reply<'static>> {
 }
 
 /// The reply to an opening call, which can only ask for the diagnosis.
-fn answer_opening<'a>(diagnosis: &'a [u8], fc: u8, bytes: &[u8]) -> Reply<'a> {
-    match read_call(fc, bytes) {
+fn answer_opening<'a>(diagnosis: &'a [u8], fc: u8, heard: Telegram<'_>) -> Reply<'a> {
+    match read_call(fc, heard) {
         Err(bare) => bare,
         Ok((Content::SlaveDiagCall, _)) => Reply::Diagnosis(diagnosis),
         Ok(_) => Reply::Bare(NO_SERVICE),
@@ -287,10 +299,10 @@ impl Printer {
         slots: &mut Slots,
         diagnosis: &'a [u8],
         fc: u8,
-        bytes: &[u8],
+        heard: Telegram<'_>,
         not_yet: u8,
     ) -> Reply<'a> {
-        match read_call(fc, bytes) {
+        match read_call(fc, heard) {
             Err(bare) => bare,
             Ok((Content::SlaveDiagCall, _)) => Reply::Diagnosis(diagnosis),
             Ok((Content::Dpv1Call(Call::Poll), _)) => self.poll(),

@@ -9,8 +9,8 @@ use super::configuration;
 use super::control::{self, GlobalControl, SetSlaveAdr};
 use super::diagnosis::{self, Header};
 use super::parameters::{self, BitTimes, Mode, Parameters};
-use super::telegram::{self, class, Class, Format, Telegram};
-use super::{refusal, LONGEST_DATA};
+use super::telegram::{self, class, Around, Class, Format, Telegram};
+use super::{refusal, store, LONGEST_DATA};
 
 /// The highest addresses, as a telegram's own writer has them.
 const LAST_DESTINATION: u8 = 127;
@@ -71,8 +71,9 @@ impl Service {
 
     /// Where it is reached, unless it has no SAPs.
     pub fn access_point(self) -> Option<AccessPoint> {
-        let mut points = ACCESS_POINTS.into_iter();
-        points.find(|point| point.service == self)
+        // The list has the services in their order, but for the first.
+        let place = (self as usize).checked_sub(1)?;
+        Some(ACCESS_POINTS[place])
     }
 }
 
@@ -110,6 +111,18 @@ pub const ACCESS_POINTS: [AccessPoint; 10] = [
     AccessPoint::new(61, 62, Service::SetPrm),
     AccessPoint::new(62, 62, Service::ChkCfg),
 ];
+
+/// The list by the slave's SAP: reading asks it for every telegram.
+static BY_SLAVE: [Option<AccessPoint>; 64] = {
+    let mut table = [None; 64];
+    let mut place = 0;
+    while place < ACCESS_POINTS.len() {
+        let point = ACCESS_POINTS[place];
+        table[point.slave as usize] = Some(point);
+        place += 1;
+    }
+    table
+};
 
 /// Which way a telegram goes.
 #[derive(Clone, Copy, Debug, PartialEq, Eq, PartialOrd, Ord)]
@@ -334,6 +347,11 @@ fn carried_by(fc: u8) -> Result<Carried, u8> {
 /// Reads the whole slice as one service telegram, with parameters in the mode
 /// that the caller expects, or answers its refusal number.
 pub fn read(bytes: &[u8], mode: Mode) -> Result<ServiceTelegram<'_>, u8> {
+    of_telegram(telegram::read(bytes)?, mode)
+}
+
+/// The service telegram that a telegram is, as `read` gives it.
+pub(super) fn of_telegram(telegram: Telegram<'_>, mode: Mode) -> Result<ServiceTelegram<'_>, u8> {
     let Telegram::Frame {
         format,
         da,
@@ -342,7 +360,7 @@ pub fn read(bytes: &[u8], mode: Mode) -> Result<ServiceTelegram<'_>, u8> {
         dsap,
         ssap,
         user,
-    } = telegram::read(bytes)?
+    } = telegram
     else {
         return Err(refusal::SERVICE);
     };
@@ -372,9 +390,8 @@ fn service_between(dsap: Option<u8>, ssap: Option<u8>, carried: Carried) -> Opti
         (Some(dsap), Some(ssap), Carried::Answer) => (ssap, dsap),
         (Some(_), None, _) | (None, Some(_), _) => return None,
     };
-    let mut points = ACCESS_POINTS.iter();
-    let point = points.find(|point| point.slave == slave && point.master == master)?;
-    Some(point.service)
+    let point = BY_SLAVE.get(usize::from(slave)).copied().flatten()?;
+    (point.master == master).then_some(point.service)
 }
 
 /// The content and the part of an opening or counted call.
@@ -484,27 +501,22 @@ pub fn write(telegram: &ServiceTelegram<'_>, out: &mut [u8]) -> Result<usize, u8
         part,
     } = *telegram;
     let point = content.service().access_point();
-    let saps_length = point.map_or(0, |_| 2);
-    judge_fields(telegram, saps_length + content.length() + part.len())?;
+    let length = content.length() + part.len();
+    judge_fields(telegram, point.map_or(0, |_| 2) + length)?;
     let carried = carried_by(fc)?;
-    let mut fixed_and_part = [0; LONGEST_DATA];
-    let user = user_data(content, carried, part, &mut fixed_and_part)?;
-    let slave = point.map(|point| point.slave);
-    let master = point.map(|point| point.master);
-    let (dsap, ssap) = match carried {
-        Carried::Call | Carried::Command => (slave, master),
-        Carried::Answer => (master, slave),
-    };
-    let frame = Telegram::Frame {
+    let saps = point.map(|AccessPoint { slave, master, .. }| match carried {
+        Carried::Call | Carried::Command => [slave, master],
+        Carried::Answer => [master, slave],
+    });
+    let frame = Around {
         format,
         da,
         sa,
         fc,
-        dsap,
-        ssap,
-        user,
+        saps,
+        length,
     };
-    telegram::write(&frame, out)
+    frame.write(out, |user| write_data(content, carried, part, user))
 }
 
 /// Refuses what no telegram has, whatever its service.
@@ -521,31 +533,7 @@ fn judge_fields(telegram: &ServiceTelegram<'_>, pdu_length: usize) -> Result<(),
     is_right.then_some(()).ok_or(refusal::FIELD)
 }
 
-/// The user data: the part itself where nothing stands before it, and else both
-/// stored together, for which there is always room.
-fn user_data<'a>(
-    content: &Content,
-    carried: Carried,
-    part: &'a [u8],
-    out: &'a mut [u8; LONGEST_DATA],
-) -> Result<&'a [u8], u8> {
-    match (carried, content) {
-        (Carried::Call | Carried::Answer, Content::DataExchange)
-        | (Carried::Call, Content::ExtUserPrm)
-        | (Carried::Answer, Content::RdInp | Content::RdOutp) => plain(part),
-        (
-            Carried::Call,
-            Content::RdInp | Content::RdOutp | Content::GetCfg | Content::SlaveDiagCall,
-        ) => empty(part),
-        (Carried::Call, Content::ChkCfg) | (Carried::Answer, Content::GetCfg) => modules(part),
-        _ => {
-            let length = write_data(content, carried, part, out)?;
-            Ok(&out[..length])
-        }
-    }
-}
-
-/// Stores the bytes of the content and then the part.
+/// Stores the user data: the bytes of the content and then the part.
 fn write_data(
     content: &Content,
     carried: Carried,
@@ -553,6 +541,16 @@ fn write_data(
     out: &mut [u8],
 ) -> Result<usize, u8> {
     match (carried, *content) {
+        (Carried::Call | Carried::Answer, Content::DataExchange)
+        | (Carried::Call, Content::ExtUserPrm)
+        | (Carried::Answer, Content::RdInp | Content::RdOutp) => store([plain(part)?], out),
+        (
+            Carried::Call,
+            Content::RdInp | Content::RdOutp | Content::GetCfg | Content::SlaveDiagCall,
+        ) => store([empty(part)?], out),
+        (Carried::Call, Content::ChkCfg) | (Carried::Answer, Content::GetCfg) => {
+            configuration::write(part, out)
+        }
         (Carried::Call, Content::Dpv1Call(call)) => acyclic::write_call(&call, part, out),
         (Carried::Answer, Content::Dpv1Answer(answer)) => acyclic::write_answer(&answer, part, out),
         (

@@ -33,10 +33,8 @@ const LAST_SAP: u8 = 63;
 const HEADER_LENGTH: usize = 3;
 /// FCS and ED.
 const TRAILER_LENGTH: usize = 2;
-/// DA through the last PDU byte, which FCS adds up and LE counts.
-const LONGEST_BODY: usize = 249;
-/// What LE may be.
-const SD2_BODIES: RangeInclusive<usize> = 4..=LONGEST_BODY;
+/// What LE may be: it counts DA through the last PDU byte, which FCS adds up.
+const SD2_BODIES: RangeInclusive<usize> = 4..=249;
 const SD3_BODY: usize = 11;
 
 /// What a function code is, of the six classes of document 01.
@@ -56,8 +54,23 @@ pub enum Class {
     Reserved,
 }
 
-/// The class of a function code, from its bits.
+/// The class of a function code.
 pub const fn class(fc: u8) -> Class {
+    CLASSES[fc as usize]
+}
+
+/// The rule worked out at compile time: reading asks it for every frame.
+static CLASSES: [Class; 256] = {
+    let mut table = [Class::Reserved; 256];
+    let mut fc = 0;
+    while fc < 256 {
+        table[fc] = class_by_bits(fc as u8);
+        fc += 1;
+    }
+    table
+};
+
+const fn class_by_bits(fc: u8) -> Class {
     match (fc & 0x80 != 0, fc & 0x40 != 0) {
         (false, true) => call_class(fc),
         (false, false) => answer_class(fc),
@@ -86,17 +99,6 @@ const fn answer_class(fc: u8) -> Class {
         _ => Class::Reserved,
     }
 }
-
-/// The rule worked out at compile time: reading asks it for every frame.
-static IS_RESERVED: [bool; 256] = {
-    let mut table = [false; 256];
-    let mut fc = 0;
-    while fc < 256 {
-        table[fc] = matches!(class(fc as u8), Class::Reserved);
-        fc += 1;
-    }
-    table
-};
 
 /// The three forms of a frame.
 #[derive(Clone, Copy, Debug, PartialEq, Eq)]
@@ -216,7 +218,7 @@ fn read_frame(format: Format, frame: &[u8]) -> Result<Telegram<'_>, u8> {
     if sa & !EXTENSION_FLAG > LAST_STATION {
         return Err(refusal::ADDRESS);
     }
-    if IS_RESERVED[usize::from(*fc)] {
+    if class(*fc) == Class::Reserved {
         return Err(refusal::FUNCTION);
     }
     let (dsap, pdu) = read_sap(*da, pdu)?;
@@ -243,13 +245,20 @@ fn read_sap(address: u8, pdu: &[u8]) -> Result<(Option<u8>, &[u8]), u8> {
     }
 }
 
-/// The sum modulo 256 of at most `LONGEST_BODY` bytes.
+/// The sum modulo 256 of the bytes.
 ///
-/// Eight bytes are added at a time. The bytes left over are taken from the last
-/// eight, with those already counted shifted out: most telegrams are short, and
-/// a loop over the rest would cost more than all before it.
+/// The compiler adds a whole chunk at once. Most telegrams are short, and have less
+/// than one.
 fn checksum(bytes: &[u8]) -> u8 {
-    debug_assert!(bytes.len() <= LONGEST_BODY, "a lane would overflow");
+    let (chunks, rest) = bytes.as_chunks::<64>();
+    let sum_of = |chunk: &[u8; 64]| -> u32 { chunk.iter().map(|byte| u32::from(*byte)).sum() };
+    let sum: u32 = chunks.iter().map(sum_of).sum();
+    (sum as u8).wrapping_add(checksum_of_rest(rest))
+}
+
+/// The sum modulo 256 of few bytes, added eight bytes at a time. The bytes
+/// left over are taken from the last eight, with those already counted shifted out.
+fn checksum_of_rest(bytes: &[u8]) -> u8 {
     let Some(last) = bytes.last_chunk() else {
         return bytes.iter().fold(0, |sum, byte| sum.wrapping_add(*byte));
     };
@@ -289,7 +298,7 @@ pub fn write(telegram: &Telegram<'_>, out: &mut [u8]) -> Result<usize, u8> {
             // No SAP compares as less than any SAP.
             if da > BROADCAST
                 || sa > LAST_STATION
-                || IS_RESERVED[usize::from(fc)]
+                || class(fc) == Class::Reserved
                 || dsap.max(ssap) > Some(LAST_SAP)
             {
                 return Err(refusal::FIELD);
@@ -364,6 +373,60 @@ fn store_frame<const N: usize>(
     let fcs = checksum(&head.bytes).wrapping_add(checksum(user));
     out[user_end..].copy_from_slice(&[fcs, ED]);
     Ok(total)
+}
+
+/// A frame but for its user data; the SAPs are both there or neither.
+pub(super) struct Around {
+    pub(super) format: Format,
+    pub(super) da: u8,
+    pub(super) sa: u8,
+    pub(super) fc: u8,
+    pub(super) saps: Option<[u8; 2]>,
+    /// How many bytes of user data there are.
+    pub(super) length: usize,
+}
+
+impl Around {
+    /// Writes the frame, which the caller has judged right, to the front of `out`.
+    /// `put` stores the user data in their place or refuses, and its refusal comes
+    /// before that of too small an output.
+    pub(super) fn write(
+        &self,
+        out: &mut [u8],
+        put: impl Fn(&mut [u8]) -> Result<usize, u8>,
+    ) -> Result<usize, u8> {
+        // The header hides the start bytes that a format does not have.
+        let (start, start_length) = match self.format {
+            Format::Sd1 => ([SD1; 4], 1),
+            Format::Sd2 => {
+                let le = self.body_length() as u8;
+                ([SD2, le, le, SD2], 4)
+            }
+            Format::Sd3 => ([SD3; 4], 1),
+        };
+        let user_end = start_length + self.body_length();
+        let total = user_end + TRAILER_LENGTH;
+        let Some(out) = out.get_mut(..total) else {
+            put(&mut [0; *SD2_BODIES.end()][..self.length])?;
+            return Err(refusal::OUTPUT);
+        };
+        put(&mut out[user_end - self.length..user_end])?;
+        let flag = self.saps.map_or(0, |_| EXTENSION_FLAG);
+        let header = [self.da | flag, self.sa | flag, self.fc];
+        out[..4].copy_from_slice(&start);
+        out[start_length..][..HEADER_LENGTH].copy_from_slice(&header);
+        if let Some(saps) = self.saps {
+            out[start_length + HEADER_LENGTH..][..2].copy_from_slice(&saps);
+        }
+        let fcs = checksum(&out[start_length..user_end]);
+        out[user_end..].copy_from_slice(&[fcs, ED]);
+        Ok(total)
+    }
+
+    /// How many bytes there are from DA through the user data.
+    fn body_length(&self) -> usize {
+        HEADER_LENGTH + self.saps.map_or(0, |saps| saps.len()) + self.length
+    }
 }
 
 /// Stores a telegram of fixed length.
@@ -722,7 +785,7 @@ mod tests {
     #[test]
     fn checksum_of_every_length() {
         let random = &mut Random::new(9);
-        for length in 0..=LONGEST_BODY {
+        for length in 0..=*SD2_BODIES.end() {
             for bytes in [random.bytes(length), vec![0xFF; length]] {
                 let sum: usize = bytes.iter().map(|byte| usize::from(*byte)).sum();
                 assert_eq!(usize::from(checksum(&bytes)), sum % 256, "{bytes:02X?}");
