@@ -1,13 +1,13 @@
-//! How a row is measured: both sides in turns, many rounds of some milliseconds,
+//! How a row is measured: both sides in turns, many rounds of a millisecond or more,
 //! and the median of each.
 
 use rabtunex_tests::speed::{median, wire_nanoseconds};
 use std::time::{Duration, Instant};
 
 /// How many rounds each side has.
-const ROUNDS: usize = 301;
+const ROUNDS: usize = 501;
 /// How long a round takes at least.
-const ROUND: Duration = Duration::from_millis(2);
+const ROUND: Duration = Duration::from_millis(1);
 
 /// One kind of work, to be done by both sides on the same inputs. Whoever makes a
 /// row has seen that both come to the same.
@@ -66,39 +66,58 @@ enum Side {
 
 /// Measures a row, the first side of a round being the second of the next.
 pub fn measure(row: &mut dyn Row) -> Figures {
-    let passes = passes_of_round(row);
-    let mut library = Vec::new();
-    let mut rust = Vec::new();
+    let mut library = Rounds::of(row, Side::Library);
+    let mut rust = Rounds::of(row, Side::Rust);
     for round in 0..ROUNDS {
-        let mut order = [Side::Library, Side::Rust];
+        let mut order = [&mut library, &mut rust];
         if round % 2 == 1 {
             order.reverse();
         }
         for side in order {
-            let nanoseconds = time(row, side, passes).as_nanos() as f64;
-            match side {
-                Side::Library => library.push(nanoseconds),
-                Side::Rust => rust.push(nanoseconds),
-            }
+            side.add(row);
         }
     }
     let load = row.load();
     let telegrams = load.telegrams as f64;
-    let of_telegram = |rounds| median(rounds) / passes as f64 / telegrams;
     Figures {
-        library: of_telegram(library),
-        rust: of_telegram(rust),
+        library: library.median() / telegrams,
+        rust: rust.median() / telegrams,
         wire: wire_nanoseconds(load.characters) / telegrams,
     }
 }
 
-/// How many passes last a round on either side. The caches are warm then, too.
-fn passes_of_round(row: &mut dyn Row) -> usize {
-    let mut passes = 1;
-    while time(row, Side::Library, passes).min(time(row, Side::Rust, passes)) < ROUND {
-        passes *= 2;
+/// The rounds of a side. Those of both last alike, since a longer one is more likely
+/// to be interrupted.
+struct Rounds {
+    side: Side,
+    passes: usize,
+    /// How long a pass took in each, in nanoseconds.
+    times: Vec<f64>,
+}
+
+impl Rounds {
+    /// None yet, but the caches are warm.
+    fn of(row: &mut dyn Row, side: Side) -> Self {
+        let mut passes = 1;
+        while time(row, side, passes) < ROUND {
+            passes *= 2;
+        }
+        Rounds {
+            side,
+            passes,
+            times: Vec::new(),
+        }
     }
-    passes
+
+    fn add(&mut self, row: &mut dyn Row) {
+        let round = time(row, self.side, self.passes);
+        self.times
+            .push(round.as_nanos() as f64 / self.passes as f64);
+    }
+
+    fn median(self) -> f64 {
+        median(self.times)
+    }
 }
 
 fn time(row: &mut dyn Row, side: Side, passes: usize) -> Duration {
@@ -115,7 +134,7 @@ fn time(row: &mut dyn Row, side: Side, passes: usize) -> Duration {
 /// The titles of the columns.
 pub fn print_head() {
     println!(
-        "{:<44} {:>10} {:>8} {:>5} {:>8} {:>6}",
+        "{:<44} {:>10} {:>8} {:>5} {:>8} {:>7}",
         "nanoseconds a telegram", "library", "Rust", "ratio", "wire", "share"
     );
 }
@@ -130,6 +149,6 @@ impl Figures {
         } = *self;
         let ratio = library / rust;
         let share = 100.0 * library / wire;
-        println!("{name:<44} {library:>10.1} {rust:>8.1} {ratio:>5.2} {wire:>8.0} {share:>5.2}%");
+        println!("{name:<44} {library:>10.1} {rust:>8.1} {ratio:>5.2} {wire:>8.0} {share:>6.3}%");
     }
 }

@@ -36,6 +36,8 @@ const TRAILER_LENGTH: usize = 2;
 /// What LE may be: it counts DA through the last PDU byte, which FCS adds up.
 const SD2_BODIES: RangeInclusive<usize> = 4..=249;
 const SD3_BODY: usize = 11;
+/// How many bytes of a checksum are added at once.
+const CHUNK: usize = 64;
 
 /// What a function code is, of the six classes of document 01.
 #[derive(Clone, Copy, Debug, PartialEq, Eq)]
@@ -245,20 +247,21 @@ fn read_sap(address: u8, pdu: &[u8]) -> Result<(Option<u8>, &[u8]), u8> {
     }
 }
 
-/// The sum modulo 256 of the bytes.
-///
-/// The compiler adds a whole chunk at once. Most telegrams are short, and have less
-/// than one.
+/// The sum modulo 256 of the bytes. The compiler adds a whole chunk at once; most
+/// telegrams are short, and have less than one.
 fn checksum(bytes: &[u8]) -> u8 {
-    let (chunks, rest) = bytes.as_chunks::<64>();
-    let sum_of = |chunk: &[u8; 64]| -> u32 { chunk.iter().map(|byte| u32::from(*byte)).sum() };
+    if bytes.len() < CHUNK {
+        return checksum_of_few(bytes);
+    }
+    let (chunks, rest) = bytes.as_chunks();
+    let sum_of = |chunk: &[u8; CHUNK]| -> u32 { chunk.iter().map(|byte| u32::from(*byte)).sum() };
     let sum: u32 = chunks.iter().map(sum_of).sum();
-    (sum as u8).wrapping_add(checksum_of_rest(rest))
+    (sum as u8).wrapping_add(checksum_of_few(rest))
 }
 
-/// The sum modulo 256 of few bytes, added eight bytes at a time. The bytes
+/// The sum modulo 256 of less than a chunk, added eight bytes at a time. The bytes
 /// left over are taken from the last eight, with those already counted shifted out.
-fn checksum_of_rest(bytes: &[u8]) -> u8 {
+fn checksum_of_few(bytes: &[u8]) -> u8 {
     let Some(last) = bytes.last_chunk() else {
         return bytes.iter().fold(0, |sum, byte| sum.wrapping_add(*byte));
     };
