@@ -4,7 +4,7 @@ use crate::data_library as library;
 use crate::measure::{Load, Row};
 use rabtunex_tests::random::Random;
 use rabtunex_tests::reference::configuration::{self, Totals};
-use rabtunex_tests::reference::diagnosis::{self, Block, ModuleMap, HEADER_LENGTH};
+use rabtunex_tests::reference::diagnosis::{self, Block, Channel, ModuleMap, HEADER_LENGTH};
 use rabtunex_tests::samples::diagnosis as samples;
 use rabtunex_tests::samples::service_telegrams::with_saps;
 use std::hint::black_box;
@@ -40,7 +40,7 @@ impl Diagnoses {
         for bytes in &diagnoses.0 {
             let (mut library, mut rust) = (Vec::new(), Vec::new());
             walk_library(bytes, |block| library.push(*block));
-            walk_rust(bytes, |block| rust.push(numbers_of(block, bytes)));
+            walk_rust(bytes, |seen| rust.push(numbers_of(seen, bytes)));
             assert_eq!(library, rust, "{bytes:02X?}");
         }
         diagnoses
@@ -48,22 +48,22 @@ impl Diagnoses {
 }
 
 /// The numbers of a block as the C interface has them (`include/rabtunex.h`).
-fn numbers_of(block: &Seen<'_>, bytes: &[u8]) -> [usize; 6] {
+fn numbers_of(seen: &Seen<'_>, bytes: &[u8]) -> [usize; 6] {
     let place = |part: &[u8]| part.as_ptr().addr() - bytes.as_ptr().addr();
-    let map_of = |block: &Seen<'_>| block.map.expect("worked out");
-    match block.block {
+    match seen.block {
         Block::Device(data) => [1, place(data), data.len(), 0, 0, 0],
         Block::Module(ModuleMap(map)) => {
-            let (reporting, lowest) = map_of(block);
+            let (reporting, lowest) = seen.map.expect("it is a map");
             let lowest = lowest.map_or(NO_MODULE, |lowest| lowest as usize);
             [2, place(map), map.len(), reporting as usize, lowest, 0]
         }
-        Block::Channel(channel) => {
-            let stations = [channel.module, channel.direction, channel.channel];
-            let [module, direction, number] = stations.map(usize::from);
-            let [kind, error] = [channel.kind, channel.error].map(usize::from);
-            [3, module, direction, number, kind, error]
-        }
+        Block::Channel(Channel {
+            module,
+            direction,
+            channel,
+            kind,
+            error,
+        }) => [3, module, direction, channel, kind, error].map(usize::from),
     }
 }
 
