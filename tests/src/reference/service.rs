@@ -350,7 +350,9 @@ pub fn read(bytes: &[u8], mode: Mode) -> Result<ServiceTelegram<'_>, u8> {
     of_telegram(telegram::read(bytes)?, mode)
 }
 
-/// The service telegram that a telegram is, as `read` gives it.
+/// The service telegram that a telegram is, as `read` gives it; put into whoever calls
+/// it, as `telegram::read` is.
+#[inline(always)]
 pub(super) fn of_telegram(telegram: Telegram<'_>, mode: Mode) -> Result<ServiceTelegram<'_>, u8> {
     let Telegram::Frame {
         format,

@@ -171,6 +171,10 @@ impl<'a> Telegram<'a> {
 }
 
 /// Reads the whole slice as one telegram, or answers its refusal number.
+///
+/// It is put into whoever calls it: handing the answer over in memory costs more than
+/// most telegrams do.
+#[inline(always)]
 pub fn read(bytes: &[u8]) -> Result<Telegram<'_>, u8> {
     match *bytes {
         [] => Err(refusal::SHORT),
@@ -205,6 +209,7 @@ pub(super) fn whole(bytes: &[u8], length: usize) -> Result<&[u8], u8> {
 }
 
 /// Reads the frame that stands after its start bytes, from DA through ED.
+#[inline]
 fn read_frame(format: Format, frame: &[u8]) -> Result<Telegram<'_>, u8> {
     let [da, sa, fc, pdu @ .., fcs, end] = frame else {
         // No form is as short as this, but only its length says so.
@@ -249,6 +254,7 @@ fn read_sap(address: u8, pdu: &[u8]) -> Result<(Option<u8>, &[u8]), u8> {
 
 /// The sum modulo 256 of the bytes. The compiler adds a whole chunk at once; most
 /// telegrams are short, and have less than one.
+#[inline]
 fn checksum(bytes: &[u8]) -> u8 {
     if bytes.len() < CHUNK {
         return checksum_of_few(bytes);
