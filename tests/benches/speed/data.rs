@@ -1,7 +1,7 @@
 //! Data of services: a diagnosis walked over, and the offsets of a configuration.
 
 use crate::data_library as library;
-use crate::measure::{Load, Row};
+use crate::measure::{called, Load, Row};
 use rabtunex_tests::random::Random;
 use rabtunex_tests::reference::configuration::{self, Totals};
 use rabtunex_tests::reference::diagnosis::{self, Block, Channel, ModuleMap, HEADER_LENGTH};
@@ -72,20 +72,27 @@ fn numbers_of(seen: &Seen<'_>, bytes: &[u8]) -> [usize; 6] {
 struct Seen<'a> {
     block: Block<'a>,
     map: Option<(u32, Option<u32>)>,
+    /// Where the next one begins.
+    next: usize,
 }
 
 fn walk_rust(bytes: &[u8], mut seen: impl FnMut(&Seen<'_>)) {
-    let (header, count) = diagnosis::read(bytes).expect("valid");
+    let (header, count) = called(|| diagnosis::read(bytes)).expect("valid");
     black_box((header, count));
     let mut position = HEADER_LENGTH;
-    while let Some((block, next)) = diagnosis::walk(bytes, position).expect("valid") {
-        let map = match block {
-            Block::Module(map) => Some((map.reporting(), map.lowest())),
-            Block::Device(_) | Block::Channel(_) => None,
-        };
-        seen(&Seen { block, map });
-        position = next;
+    while let Some(step) = called(|| step_rust(bytes, position)) {
+        seen(&step);
+        position = step.next;
     }
+}
+
+fn step_rust(bytes: &[u8], position: usize) -> Option<Seen<'_>> {
+    let (block, next) = diagnosis::walk(bytes, position).expect("valid")?;
+    let map = match block {
+        Block::Module(map) => Some((map.reporting(), map.lowest())),
+        Block::Device(_) | Block::Channel(_) => None,
+    };
+    Some(Seen { block, map, next })
 }
 
 fn walk_library(bytes: &[u8], mut seen: impl FnMut(&[usize; 6])) {
@@ -176,7 +183,7 @@ impl Offsets {
 
     fn by_rust(&mut self, bytes: &[u8]) -> [usize; 3] {
         let Offsets { inputs, outputs } = self;
-        let totals = configuration::read(bytes, inputs, outputs).expect("valid");
+        let totals = called(|| configuration::read(bytes, inputs, outputs)).expect("valid");
         let Totals {
             modules,
             inputs,

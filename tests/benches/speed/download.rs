@@ -3,7 +3,7 @@
 
 use crate::controller_side::{self, Standing, GOES_ON};
 use crate::download_side;
-use crate::measure::{Load, Row};
+use crate::measure::{called, Load, Row};
 use crate::printer_side::{self, Given, Station};
 use rabtunex_tests::random::Random;
 use rabtunex_tests::reference::controller::{self, Ending, Move, Settings, State};
@@ -68,7 +68,7 @@ impl Place {
             request: &mut self.request,
             reply: &mut self.reply,
         };
-        let outcome = download::run(&scene.plan(), self.printer, lent, seen);
+        let outcome = called(|| download::run(&scene.plan(), self.printer, lent, seen));
         let outcome = outcome.expect("not refused");
         self.printer = outcome.printer;
         outcome
@@ -172,7 +172,8 @@ impl Place {
             reply,
             ..
         } = self;
-        let step = printer::step(*printer, slots, &scene.diagnosis, telegram, 1, reply);
+        let diagnosis = &scene.diagnosis;
+        let step = called(|| printer::step(*printer, slots, diagnosis, telegram, 1, reply));
         let (next, sent) = step.expect("not refused");
         *printer = next;
         sent
@@ -262,7 +263,8 @@ fn steer_rust(scene: &Scene, replies: &[Vec<u8>], mut seen: impl FnMut(&[u8])) -
     let mut request = [0; BUFFER_ROOM];
     let mut state = State::Fresh;
     for reply in replies {
-        let step = controller::step(settings, book, state, black_box(reply), &mut request);
+        let reply = black_box(reply);
+        let step = called(|| controller::step(settings, book, state, reply, &mut request));
         match step.expect("not refused") {
             Move::Send {
                 state: next,

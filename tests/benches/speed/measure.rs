@@ -22,6 +22,13 @@ pub trait Row {
     fn rust(&mut self);
 }
 
+/// The answer of a function that is called, as the library's are: put into the
+/// measured loop, it would be measured without what a caller pays.
+#[inline(never)]
+pub fn called<A>(function: impl FnOnce() -> A) -> A {
+    function()
+}
+
 /// What goes over the line in a pass.
 #[derive(Clone, Copy, Default)]
 pub struct Load {

@@ -1,6 +1,6 @@
 //! Service telegrams read and written, in version DPV1.
 
-use crate::measure::{Load, Row};
+use crate::measure::{called, Load, Row};
 use crate::service_fields::{self, version_of, Fields, COUNT};
 use crate::service_library as library;
 use crate::telegrams::MIX;
@@ -84,7 +84,8 @@ impl Row for Reading {
     fn rust(&mut self) {
         for given in &self.0 {
             let bytes = black_box(given.bytes);
-            black_box(&service::read(bytes, black_box(Mode::Dpv1)));
+            let mode = black_box(Mode::Dpv1);
+            black_box(&called(|| service::read(bytes, mode)));
         }
     }
 }
@@ -139,7 +140,8 @@ impl Row for Writing {
         let mut out = [0; BUFFER_ROOM];
         for given in &self.0 {
             let out = black_box(&mut out[..]);
-            black_box(&service::write(&black_box(given).telegram, out));
+            let telegram = &black_box(given).telegram;
+            black_box(&called(|| service::write(telegram, out)));
         }
     }
 }

@@ -1,7 +1,7 @@
 //! Telegrams read and written.
 
 use crate::library;
-use crate::measure::{Load, Row};
+use crate::measure::{called, Load, Row};
 use rabtunex_tests::random::Random;
 use rabtunex_tests::reference::fields::{self, Fields};
 use rabtunex_tests::reference::printer::BUFFER_ROOM;
@@ -89,7 +89,8 @@ impl Row for Reading {
 
     fn rust(&mut self) {
         for bytes in &self.telegrams {
-            black_box(&telegram::read(black_box(bytes)));
+            let bytes = black_box(bytes);
+            black_box(&called(|| telegram::read(bytes)));
         }
     }
 }
@@ -176,7 +177,7 @@ impl Row for Writing {
         for given in &self.given {
             let Given { telegram, .. } = black_box(given);
             let out = black_box(&mut out[..]);
-            black_box(&telegram::write(telegram, out));
+            black_box(&called(|| telegram::write(telegram, out)));
         }
     }
 }
