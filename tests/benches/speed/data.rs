@@ -77,10 +77,10 @@ struct Seen<'a> {
 }
 
 fn walk_rust(bytes: &[u8], mut seen: impl FnMut(&Seen<'_>)) {
-    let (header, count) = called(|| diagnosis::read(bytes)).expect("valid");
+    let (header, count) = called(move || diagnosis::read(bytes)).expect("valid");
     black_box((header, count));
     let mut position = HEADER_LENGTH;
-    while let Some(step) = called(|| step_rust(bytes, position)) {
+    while let Some(step) = called(move || step_rust(bytes, position)) {
         seen(&step);
         position = step.next;
     }
@@ -183,7 +183,7 @@ impl Offsets {
 
     fn by_rust(&mut self, bytes: &[u8]) -> [usize; 3] {
         let Offsets { inputs, outputs } = self;
-        let totals = called(|| configuration::read(bytes, inputs, outputs)).expect("valid");
+        let totals = called(move || configuration::read(bytes, inputs, outputs)).expect("valid");
         let Totals {
             modules,
             inputs,

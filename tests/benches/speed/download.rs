@@ -68,7 +68,8 @@ impl Place {
             request: &mut self.request,
             reply: &mut self.reply,
         };
-        let outcome = called(|| download::run(&scene.plan(), self.printer, lent, seen));
+        let printer = self.printer;
+        let outcome = called(move || download::run(&scene.plan(), printer, lent, seen));
         let outcome = outcome.expect("not refused");
         self.printer = outcome.printer;
         outcome
@@ -172,8 +173,8 @@ impl Place {
             reply,
             ..
         } = self;
-        let diagnosis = &scene.diagnosis;
-        let step = called(|| printer::step(*printer, slots, diagnosis, telegram, 1, reply));
+        let (state, diagnosis) = (*printer, &scene.diagnosis);
+        let step = called(move || printer::step(state, slots, diagnosis, telegram, 1, reply));
         let (next, sent) = step.expect("not refused");
         *printer = next;
         sent
@@ -263,8 +264,8 @@ fn steer_rust(scene: &Scene, replies: &[Vec<u8>], mut seen: impl FnMut(&[u8])) -
     let mut request = [0; BUFFER_ROOM];
     let mut state = State::Fresh;
     for reply in replies {
-        let reply = black_box(reply);
-        let step = called(|| controller::step(settings, book, state, reply, &mut request));
+        let (reply, out) = (black_box(reply), &mut request);
+        let step = called(move || controller::step(settings, book, state, reply, out));
         match step.expect("not refused") {
             Move::Send {
                 state: next,

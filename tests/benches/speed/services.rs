@@ -85,7 +85,7 @@ impl Row for Reading {
         for given in &self.0 {
             let bytes = black_box(given.bytes);
             let mode = black_box(Mode::Dpv1);
-            black_box(&called(|| service::read(bytes, mode)));
+            black_box(&called(move || service::read(bytes, mode)));
         }
     }
 }
@@ -141,7 +141,7 @@ impl Row for Writing {
         for given in &self.0 {
             let out = black_box(&mut out[..]);
             let telegram = &black_box(given).telegram;
-            black_box(&called(|| service::write(telegram, out)));
+            black_box(&called(move || service::write(telegram, out)));
         }
     }
 }

@@ -90,7 +90,7 @@ impl Row for Reading {
     fn rust(&mut self) {
         for bytes in &self.telegrams {
             let bytes = black_box(bytes);
-            black_box(&called(|| telegram::read(bytes)));
+            black_box(&called(move || telegram::read(bytes)));
         }
     }
 }
@@ -177,7 +177,7 @@ impl Row for Writing {
         for given in &self.given {
             let Given { telegram, .. } = black_box(given);
             let out = black_box(&mut out[..]);
-            black_box(&called(|| telegram::write(telegram, out)));
+            black_box(&called(move || telegram::write(telegram, out)));
         }
     }
 }
