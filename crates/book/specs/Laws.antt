@@ -1,11 +1,13 @@
 -- The laws of a book.
-use mathlib.Core.Path.{_≡_, ap, _∙_}
+use mathlib.Core.Path.{_≡_, sym, ap, _∙_}
 use mathlib.Core.List.{List}
 use Prim.Native.Nat.{ℕ, _≤_, _<_}
 use native.Mathlib.Omega.{arith}
 use lib.ListN.{length, getD}
 use Rattle.octets.specs.Front.{fine}
-use Rattle.book.specs.Reading.{slotsOf, lengthsOf, bodiesOf, readOf}
+use borrow.Author.Tests.{le-ltb}
+use Rattle.book.specs.Reading.{counted, slotsOf, lengthsOf, bodiesOf, readOf}
+use Rattle.book.specs.Template.{listedOf, templateOf}
 use Rattle.book.specs.Writing.{bookBytes, verdictOf}
 use Rattle.book.specs.Contents.{Entry, templatesOf, InOrder, slotsIn, lengthsIn, bodiesIn, bytesFor, stretchOf, Found}
 use Rattle.book.specs.Lemmas.Good.{same-count}
@@ -66,6 +68,15 @@ template-is s e d i h =
     let n = slots-long s ∙ a .count in
     let g = found s e i h in
     rw (by-index (bodiesOf s) d i (a .fit .good) (omega arith), g .long) g
+
+-- By the table alone the templates of an accepted book are found as reading finds them.
+pub listed-is : (s : List ℕ) {n : ℕ} → readOf s ≡ Book n → (k : ℕ) → listedOf s k ≡ templateOf s k
+unfolding listedOf templateOf
+listed-is s e k =
+    let a = accepted s e in
+    let most : counted s ≤ 16 = omega (arith, a .fit .most, slots-long s) in
+    let some : 1 ≤ length s = omega (arith, a .table) in
+    simp (e, sym (a .count), le-ltb _ _ some, le-ltb _ _ most, le-ltb _ _ (a .table))
 
 -- Templates in order, 1 to 16 of them, make a book that has those templates.
 pub book-bytes : (ts : List Entry) → InOrder 0 ts → 1 ≤ length ts → length ts ≤ 16

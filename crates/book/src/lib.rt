@@ -8,5 +8,6 @@ mod writing;
 pub use answers::Reading;
 pub use answers::Template;
 pub use reading::read;
+pub use templates::listed;
 pub use templates::template;
 pub use writing::write;

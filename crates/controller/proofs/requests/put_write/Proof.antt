@@ -22,10 +22,10 @@ held : (c : tie.After-known-told) →
     Holds (bookAt b) (b .args .template) (b .pre .1) (b .pre .2) (f .0) (f .1 .0) (f .1 .1 .0)
 held c =
     let b = entry c in
-    holds (bookAt b) (b .args .template) (b .pre .1) (b .pre .2) (sym (c .before .before .before .template .ensures) ∙ c .before .found .given .1)
+    holds (bookAt b) (b .args .template) (b .pre .1) (b .pre .2) (sym (c .before .before .before .listed .ensures) ∙ c .before .found .given .1)
 
-template-requires : tie.Need-template-requires
-template-requires c κs = search needs
+listed-requires : tie.Need-listed-requires
+listed-requires c κs = search needs
 
 enum-known-found : tie.Need-enum-known-found
 enum-known-found c = search needs
@@ -37,7 +37,7 @@ returns : tie.Need-returns
 returns c =
     let t = c .before .before in
     let b = t .before .before .before in
-    rw (none-left (bookAt b) (b .args .template) (b .pre .1) (b .pre .2) (sym (t .template .ensures) ∙ c .enum-told .given .1))
+    rw (none-left (bookAt b) (b .args .template) (b .pre .1) (b .pre .2) (sym (t .listed .ensures) ∙ c .enum-told .given .1))
 
 counted-code-requires : tie.Need-counted-code-requires
 counted-code-requires c κs = search needs
@@ -69,4 +69,4 @@ returns-2 c =
     rw (left-from (templatesOf (bookAt b)) (b .args .template) (b .pre .2) (h .most), ← f .counted-code .ensures, ← (p .part .ensures ∙ h .part), ← h .slot) (w .put .ensures)
 
 pub put-write-spec : {M : Type 1} → statement M
-put-write-spec = tie.close (tie.spec template-requires enum-known-found enum-told returns counted-code-requires part-requires put-requires same-length returns-2)
+put-write-spec = tie.close (tie.spec listed-requires enum-known-found enum-told returns counted-code-requires part-requires put-requires same-length returns-2)

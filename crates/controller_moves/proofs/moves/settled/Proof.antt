@@ -26,10 +26,10 @@ held : (c : tie.After-known-told) →
     Holds (bookAt b) (b .args .template) (b .pre .0) (b .pre .1) (f .0) (f .1 .0) (f .1 .1 .0)
 held c =
     let b = entry c in
-    holds (bookAt b) (b .args .template) (b .pre .0) (b .pre .1) (sym (c .before .before .before .template .ensures) ∙ c .before .found .given .1)
+    holds (bookAt b) (b .args .template) (b .pre .0) (b .pre .1) (sym (c .before .before .before .listed .ensures) ∙ c .before .found .given .1)
 
-template-requires : tie.Need-template-requires
-template-requires c κs = search needs
+listed-requires : tie.Need-listed-requires
+listed-requires c κs = search needs
 
 enum-known-found : tie.Need-enum-known-found
 enum-known-found c = search needs
@@ -41,7 +41,7 @@ returns : tie.Need-returns
 returns c =
     let t = c .before .before in
     let b = t .before .before in
-    rw (none-left (bookAt b) (b .args .template) (b .pre .0) (b .pre .1) (sym (t .template .ensures) ∙ c .enum-told .given .1))
+    rw (none-left (bookAt b) (b .args .template) (b .pre .0) (b .pre .1) (sym (t .listed .ensures) ∙ c .enum-told .given .1))
     (record { move = refl; counted = tt })
 
 returns-2 : tie.Need-returns-2
@@ -80,4 +80,4 @@ returns-5 c =
     (record { move = behind (a .settings) (a .template) (not (a .fcb)) (a .settings .repeats) (templatesOf (bookAt b)); counted = omega arith })
 
 pub settled-spec : {M : Type 1} → statement M
-settled-spec = tie.close (tie.spec template-requires enum-known-found enum-told returns returns-2 returns-3 returns-4 add-t17 returns-5)
+settled-spec = tie.close (tie.spec listed-requires enum-known-found enum-told returns returns-2 returns-3 returns-4 add-t17 returns-5)
