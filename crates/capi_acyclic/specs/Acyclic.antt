@@ -8,13 +8,8 @@ use Rattle.octets.specs.Front.{Verdict, fault, answerBy, heldBy}
 use Rattle.octets.specs.declared.Written.{Written}
 use Rattle.acyclic.specs.Calls as calls
 use Rattle.acyclic.specs.Answers as answers
-use Rattle.acyclic.specs.declared.numbers.Function.the-variants as function
-use Rattle.acyclic.specs.declared.calls.Call.{Call}
-use Rattle.acyclic.specs.declared.calls.Call.the-variants as call
 use Rattle.acyclic.specs.declared.calls.CallReading.{CallReading}
 use Rattle.acyclic.specs.declared.calls.CallReading.the-variants as call-reading
-use Rattle.acyclic.specs.declared.answers.Answer.{Answer}
-use Rattle.acyclic.specs.declared.answers.Answer.the-variants as answer
 use Rattle.acyclic.specs.declared.answers.AnswerReading.{AnswerReading}
 use Rattle.acyclic.specs.declared.answers.AnswerReading.the-variants as answer-reading
 use Rattle.fields.specs.Dpv1.{callFour, answerFour, callNamed, answerNamed}

@@ -1,7 +1,6 @@
 -- Service telegrams through the C interface. Their fields are eighteen bytes: the service, the way, kind, DA, SA, FC, start and
 -- length of the part, and then ten of the service's own: the fixed bytes of its data in their order, and 0 behind them.
 use Prim.Native.Nat.{ℕ, _+_}
-use mathlib.Core.Bool.{not}
 use mathlib.Core.List.{List, [], _∷_}
 use lib.ListN.{length, getD}
 use lib.Dec.{eqb, ltb}
@@ -16,11 +15,9 @@ use Rattle.fdl.specs.declared.telegram.Header.{Header}
 use Rattle.access.specs.Route.{routeOf, headerOf}
 use Rattle.access.specs.declared.route.Route.{Route}
 use Rattle.access.specs.declared.route.Route.the-variants as route
-use Rattle.access.specs.declared.table.Service.{Service}
 use Rattle.access.specs.declared.table.Service.the-variants as service
 use Rattle.content.specs.Fields.{serviceOf}
 use Rattle.content.specs.declared.fields.Content.{Content}
-use Rattle.content.specs.declared.fields.Content.the-variants as content
 use Rattle.service.specs.Reading.{refused, readOf}
 use Rattle.service.specs.Writing.{verdictOf, telegramFor}
 use Rattle.service.specs.declared.reading.Way.{Way}

@@ -9,7 +9,6 @@ use crate::ending_lines::ending_lines;
 use crate::ending_lines::refused_line;
 use crate::input::BOOK_START;
 use crate::input::Layout;
-use crate::input::Parts;
 use crate::input::laid_out;
 use crate::sending_line::sending_line;
 use libc::STDIN_FILENO;
