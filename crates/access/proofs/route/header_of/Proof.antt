@@ -1,6 +1,8 @@
 -- `access::route::header_of` meets its contract: each kind has its line.
-use mathlib.Core.Path.{sym, _∙_}
-use Rattle.access.specs.Route.{headerOf}
+use mathlib.Core.Path.{_≡_, sym, _∙_}
+use Rattle.fdl.specs.declared.telegram.Header.{Header}
+use Rattle.access.specs.Route.{headerBy, headerOf}
+use Rattle.access.specs.declared.route.Kind.{Kind}
 use borrow.Author.Needs.{needs}
 use Rattle.access.proofs.route.header_of.Statement.{statement}
 use Rattle.access.proofs.route.header_of.Tie as tie
@@ -35,33 +37,24 @@ enum-told-4 c = search needs
 header-with-requires-4 : tie.Need-header-with-requires-4
 header-with-requires-4 c κs = search needs
 
-returns : tie.Need-returns
+-- a header by the definition's line for the kind that was found
+by-line : (k : tie.After-kind-of) (x : Kind) {h : Header} → k .kind-of .result ≡ x →
+    let a = k .before .before .args in
+    h ≡ headerBy x (a .da) (a .sa) (a .fc) (k .before .points-of .result) → h ≡ headerOf (a .service) (a .da) (a .sa) (a .fc)
 unfolding headerOf
-returns c =
-    let t = c .before in
-    let k = t .before .before in
-    simp (sym (k .before .points-of .ensures), sym (k .kind-of .ensures) ∙ t .enum-told .given .1) (c .header-with .ensures)
+by-line k x e f = simp (sym (k .before .points-of .ensures), sym (k .kind-of .ensures) ∙ e) f
+
+returns : tie.Need-returns
+returns c = by-line (c .before .before .before) _ (c .before .enum-told .given .1) (c .header-with .ensures)
 
 returns-2 : tie.Need-returns-2
-unfolding headerOf
-returns-2 c =
-    let t = c .before in
-    let k = t .before .before in
-    simp (sym (k .before .points-of .ensures), sym (k .kind-of .ensures) ∙ t .enum-told2 .given .1) (c .header-with2 .ensures)
+returns-2 c = by-line (c .before .before .before) _ (c .before .enum-told2 .given .1) (c .header-with2 .ensures)
 
 returns-3 : tie.Need-returns-3
-unfolding headerOf
-returns-3 c =
-    let t = c .before in
-    let k = t .before .before in
-    simp (sym (k .before .points-of .ensures), sym (k .kind-of .ensures) ∙ t .enum-told3 .given .1) (c .header-with3 .ensures)
+returns-3 c = by-line (c .before .before .before) _ (c .before .enum-told3 .given .1) (c .header-with3 .ensures)
 
 returns-4 : tie.Need-returns-4
-unfolding headerOf
-returns-4 c =
-    let t = c .before in
-    let k = t .before .before in
-    simp (sym (k .before .points-of .ensures), sym (k .kind-of .ensures) ∙ t .enum-told4 .given .1) (c .header-with4 .ensures)
+returns-4 c = by-line (c .before .before .before) _ (c .before .enum-told4 .given .1) (c .header-with4 .ensures)
 
 pub header-of-spec : {M : Type 1} → statement M
 header-of-spec =

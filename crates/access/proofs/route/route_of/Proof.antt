@@ -1,5 +1,5 @@
 -- `access::route::route_of` meets its contract: each kind has its line.
-use mathlib.Core.Path.{sym, ap, _∙_}
+use mathlib.Core.Path.{_≡_, sym, ap, _∙_}
 use Rattle.access.specs.Route.{callRoute, commandRoute, answerRoute, routeBy, routeOf}
 use Rattle.access.specs.declared.route.Kind.{Kind}
 use borrow.Author.Needs.{needs}
@@ -39,39 +39,32 @@ answer-route-requires c κs = search needs
 enum-told-4 : tie.Need-enum-told-4
 enum-told-4 c = search needs
 
-returns : tie.Need-returns
+-- the definition's line for a kind that was found
+line : (k : tie.After-kind-of) (x : Kind) → k .kind-of .result ≡ x →
+    let h = k .before .args .header in
+    routeBy x (h .dsap) (h .ssap) ≡ routeOf h
 unfolding routeOf
+line k x e =
+    let h = k .before .args .header in
+    sym (ap (λ (y : Kind). routeBy y (h .dsap) (h .ssap)) (sym (k .kind-of .ensures) ∙ e))
+
+returns : tie.Need-returns
 returns c =
     let t = c .before .before in
-    let k = t .before .before in
-    let h = k .before .args .header in
-    c .call-route .ensures ∙ ap callRoute (c .before .named-by .ensures)
-    ∙ sym (ap (λ (x : Kind). routeBy x (h .dsap) (h .ssap)) (sym (k .kind-of .ensures) ∙ t .enum-told .given .1))
+    c .call-route .ensures ∙ ap callRoute (c .before .named-by .ensures) ∙ line (t .before .before) _ (t .enum-told .given .1)
 
 returns-2 : tie.Need-returns-2
-unfolding routeOf
 returns-2 c =
     let t = c .before .before in
-    let k = t .before .before in
-    let h = k .before .args .header in
-    c .command-route .ensures ∙ ap commandRoute (c .before .named-by2 .ensures)
-    ∙ sym (ap (λ (x : Kind). routeBy x (h .dsap) (h .ssap)) (sym (k .kind-of .ensures) ∙ t .enum-told2 .given .1))
+    c .command-route .ensures ∙ ap commandRoute (c .before .named-by2 .ensures) ∙ line (t .before .before) _ (t .enum-told2 .given .1)
 
 returns-3 : tie.Need-returns-3
-unfolding routeOf
 returns-3 c =
     let t = c .before .before in
-    let k = t .before .before in
-    let h = k .before .args .header in
-    c .answer-route .ensures ∙ ap answerRoute (c .before .named-by3 .ensures)
-    ∙ sym (ap (λ (x : Kind). routeBy x (h .dsap) (h .ssap)) (sym (k .kind-of .ensures) ∙ t .enum-told3 .given .1))
+    c .answer-route .ensures ∙ ap answerRoute (c .before .named-by3 .ensures) ∙ line (t .before .before) _ (t .enum-told3 .given .1)
 
 returns-4 : tie.Need-returns-4
-unfolding routeOf
-returns-4 c =
-    let k = c .before .before in
-    let h = k .before .args .header in
-    sym (ap (λ (x : Kind). routeBy x (h .dsap) (h .ssap)) (sym (k .kind-of .ensures) ∙ c .enum-told4 .given .1))
+returns-4 c = line (c .before .before) _ (c .enum-told4 .given .1)
 
 pub route-of-spec : {M : Type 1} → statement M
 route-of-spec =
