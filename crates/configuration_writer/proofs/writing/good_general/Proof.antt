@@ -1,8 +1,10 @@
 -- `configuration_writer::writing::good_general` meets its contract. The definition has the same four cases.
+use mathlib.Core.Path.{_≡_}
 use mathlib.Core.Bool.{Bool, Bool·beq}
 use borrow.Author.Tests.{eq-eqb, ne-eqb, not-true, not-false}
 use borrow.Author.Needs.{needs}
-use Rattle.configuration.specs.Writing.{goodGeneral}
+use Rattle.octets.specs.Choice.{_and_}
+use Rattle.configuration.specs.Writing.{goodUnits, goodGeneral}
 use Rattle.configuration_writer.proofs.writing.good_general.Statement.{statement}
 use Rattle.configuration_writer.proofs.writing.good_general.Tie as tie
 
@@ -12,6 +14,17 @@ words c = Bool·beq (c .before .output2 .given .0 .1 .0) (c .before .before .bef
 
 abbrev consistent : tie.After-known-told3 → Bool
 consistent c = Bool·beq (c .before .output2 .given .0 .1 .1 .0) (c .before .before .before .before .input .given .0 .1 .1 .0)
+
+-- what is left of the definition where their units are the same
+rest : (e : tie.Else1) →
+    let k = e .before in
+    let g = k .before .before .before .before in
+    let a = g .before .before .args in
+    goodGeneral (a .input) (a .output) ≡ (words k and consistent k and goodUnits 16 (g .input .given .0 .0))
+unfolding goodGeneral
+rest e =
+    let o = e .before .before in
+    simp (o .before .before .before .input .given .1, o .output2 .given .1, eq-eqb _ _ (e .if1 .left))
 
 enum-told : tie.Need-enum-told
 enum-told c = search needs
@@ -44,26 +57,13 @@ returns c =
     simp (o .before .before .before .input .given .1, o .output2 .given .1, ne-eqb _ _ (c .if1 .taken))
 
 returns-2 : tie.Need-returns-2
-unfolding goodGeneral
-returns-2 c =
-    let k = c .before .before in
-    let o = k .before in
-    simp
-    (o .before .before .before .input .given .1, o .output2 .given .1, eq-eqb _ _ (c .before .if1 .left), not-true (words k) (c .if2 .taken))
+returns-2 c = simp (rest (c .before), not-true (words (c .before .before)) (c .if2 .taken))
 
 returns-3 : tie.Need-returns-3
-unfolding goodGeneral
 returns-3 c =
     let e = c .before in
     let k = e .before .before in
-    let o = k .before in
-    simp (
-      o .before .before .before .input .given .1,
-      o .output2 .given .1,
-      eq-eqb _ _ (e .before .if1 .left),
-      not-false (words k) (e .if2 .left),
-      not-true (consistent k) (c .if3 .taken),
-    )
+    simp (rest (e .before), not-false (words k) (e .if2 .left), not-true (consistent k) (c .if3 .taken))
 
 good-units-requires-3 : tie.Need-good-units-requires-3
 good-units-requires-3 c κs = search needs
@@ -85,20 +85,11 @@ returns-6 c =
     simp (o .before .before .before .input .given .1, o .enum-told3 .given .1) (c .good-units2 .ensures)
 
 returns-7 : tie.Need-returns-7
-unfolding goodGeneral
 returns-7 c =
     let d = c .before in
     let e = d .before in
     let k = e .before .before in
-    let o = k .before in
-    simp (
-      o .before .before .before .input .given .1,
-      o .output2 .given .1,
-      eq-eqb _ _ (e .before .if1 .left),
-      not-false (words k) (e .if2 .left),
-      not-false (consistent k) (d .if3 .left),
-    )
-    (c .good-units3 .ensures)
+    simp (rest (e .before), not-false (words k) (e .if2 .left), not-false (consistent k) (d .if3 .left)) (c .good-units3 .ensures)
 
 pub good-general-spec : {M : Type 1} → statement M
 good-general-spec =
