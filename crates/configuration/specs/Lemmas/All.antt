@@ -17,7 +17,6 @@ use Rattle.configuration.specs.Writing.{moduleVerdict, moduleBytes}
 use Rattle.configuration.specs.Contents.{endsWell, walkBytes, andThen, walkVerdict, Whole}
 use Rattle.configuration.specs.Lemmas.Steps.{stands, ends, breaks}
 use Rattle.configuration.specs.Lemmas.One.{back, again}
-use Rattle.configuration.specs.declared.fields.Module.{Module}
 use Rattle.configuration.specs.declared.walk.Step.{Step}
 use Rattle.configuration.specs.declared.walk.Step.the-variants as step
 

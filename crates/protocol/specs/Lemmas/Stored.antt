@@ -20,7 +20,7 @@ use Rattle.protocol.specs.Lemmas.Groups.{exchange-all}
 use Rattle.protocol.specs.Lemmas.Slots.{written-sized, slot-written, slot-kept}
 use Rattle.protocol.specs.Lemmas.Ours.{heard-arrives}
 use Rattle.protocol.specs.Lemmas.Follows.{fillAll, answered-arrived}
-use Rattle.protocol.specs.Lemmas.Means.{by-ways, wrote, requests, onward-damage}
+use Rattle.protocol.specs.Lemmas.Means.{by-ways, wrote, onward-damage}
 use Rattle.protocol.specs.declared.controller.Settings.{Settings}
 
 -- ---- in the words: those whose write was heard and not refused

@@ -34,7 +34,6 @@ use Rattle.service.specs.Reading.{placedAt, routedBy, serviceIn, readOf}
 use Rattle.service.specs.Writing.{headerFor, telegramFor, routeVerdict, verdictOf}
 use Rattle.service.specs.declared.reading.Way.{Way}
 use Rattle.service.specs.declared.reading.Way.the-variants as way
-use Rattle.service.specs.declared.reading.Reading.{Reading}
 use Rattle.service.specs.declared.reading.Reading.the-variants as reading
 
 -- where one verdict comes before another, and the whole is fine, both are

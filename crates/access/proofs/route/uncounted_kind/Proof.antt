@@ -1,6 +1,5 @@
 -- `access::route::uncounted_kind` meets its contract: by the same numbers.
 use borrow.Author.Tests.{ne-eqb}
-use borrow.Author.Tests.{ne-eqb}
 use Rattle.access.proofs.route.uncounted_kind.Statement.{statement}
 use Rattle.access.proofs.route.uncounted_kind.Tie as tie
 
