@@ -95,6 +95,10 @@ refused k t l = (refl, refl)
 
 -- ---- two stores, q behind p
 
+-- a writer that has no room for both
+pub both-too-small : (p q l : List ℕ) → length l < length p + length q → (Refused 11 ≡ answerBy fine (p ++ q) (length l)) × (l ≡ heldBy fine (p ++ q) l)
+both-too-small p q l h = too-small (p ++ q) l (omega (arith, length-append p q))
+
 -- p fits where both fit
 pub first-fits : (p q : List ℕ) {room : ℕ} → length (p ++ q) ≤ room → length p ≤ room
 first-fits p q h = omega (arith, length-append p q)
@@ -145,6 +149,13 @@ module _ {p l a : List ℕ} {n : ℕ} (f : AtFront p l a n) where
       let fits : leb (n + length q) (length a) ≡ true = le-leb _ _ (within q h) in
       let e : after ≡ p ++ q ++ drop (n + length q) a = rw (← front) (simp fits at b) in
       subst (AtFront (p ++ q) l after) (sym (simp fits at c)) (behind q e)
+
+  -- and by a writer that answers so
+  pub both-written : (q : List ℕ) {after : List ℕ} {count : ℕ} → count ≡ countBehind n q a → after ≡ heldBehind n q a
+      → length p + length q ≤ length l → (Stored count ≡ answerBy fine (p ++ q) (length l)) × (after ≡ heldBy fine (p ++ q) l)
+  both-written q c b h =
+      let room : length (p ++ q) ≤ length l = omega (arith, length-append p q) in
+      stored room (both-stored q c b room)
 
   -- what is lent from n on is still l's
   pub lent-rest : midOf n (length a - n) a ≡ drop (length p) l

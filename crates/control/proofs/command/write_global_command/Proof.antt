@@ -2,13 +2,12 @@
 use mathlib.Core.Path.{_≡_, sym, ap, _∙_}
 use mathlib.Core.Bool.{not}
 use mathlib.Core.List.{List}
-use Prim.Native.Nat.{ℕ, _+_, _≤_}
+use Prim.Native.Nat.{ℕ}
 use native.Mathlib.Omega.{arith}
-use lib.ListN.{length, length-append}
 use denote.Ref.{now}
 use borrow.Author.Needs.{needs}
 use borrow.Author.Tests.{eq-eqb, ne-eqb}
-use Rattle.octets.specs.Front.{fine, refused, too-small, stored, both-stored}
+use Rattle.octets.specs.Front.{fine, refused, both-too-small, both-written}
 use Rattle.control.specs.Command.{verdictOf, fixedBytes, bytesFor, verdictFor}
 use Rattle.control.proofs.command.write_global_command.Statement.{statement}
 use Rattle.control.proofs.command.write_global_command.Tie as tie
@@ -16,9 +15,6 @@ use Rattle.control.proofs.command.write_global_command.Tie as tie
 -- the bytes to be written
 abbrev bytesAt : tie.Start → List ℕ
 bytesAt b = bytesFor (b .args .fields) (now (b .args .rest))
-
-sized : (b : tie.Start) → length (bytesAt b) ≡ 2 + length (now (b .args .rest))
-sized b = length-append (fixedBytes (b .args .fields)) (now (b .args .rest))
 
 add-size : tie.Need-add-size
 add-size c = search needs
@@ -46,8 +42,8 @@ passed c = simp (eq-eqb _ _ (c .before .before .if1 .left), ap not (sym (c .befo
 
 returns-3 : tie.Need-returns-3
 returns-3 c =
-    let b = c .before .before .before .before .before .before in
-    rw (passed (c .before)) (too-small (bytesAt b) (now (b .args .out)) (omega (arith, sized b)))
+    let a = c .before .before .before .before .before .before .args in
+    rw (passed (c .before)) (both-too-small (fixedBytes (a .fields)) (now (a .rest)) (now (a .out)) (omega arith))
 
 put-requires : tie.Need-put-requires
 put-requires c κs = search needs
@@ -63,10 +59,9 @@ returns-4 c =
     let r = c .before .before in
     let p = r .before .before .before .before in
     let e = p .before .before in
-    let b = e .before .before .before .before .before .before in
+    let a = e .before .before .before .before .before .before .args in
     let s = r .store-behind .ensures in
-    let room : length (bytesAt b) ≤ length (now (b .args .out)) = omega (arith, sized b) in
-    rw (passed (e .before)) (stored room (both-stored (p .put .ensures) (now (b .args .rest)) (s .0) (s .1) room))
+    rw (passed (e .before)) (both-written (p .put .ensures) (now (a .rest)) (s .0) (s .1) (omega arith))
 
 pub write-global-command-spec : {M : Type 1} → statement M
 write-global-command-spec =
