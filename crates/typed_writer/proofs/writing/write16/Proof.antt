@@ -7,7 +7,7 @@ use denote.Ref.{now}
 use borrow.Author.Needs.{needs}
 use Rattle.octets.specs.Number.{bytesOf}
 use Rattle.octets.specs.Front.{too-small, stored}
-use Rattle.typed_writer.proofs.Coded.{behind-code}
+use Rattle.typed_writer.proofs.Coded.{most, behind-code}
 use Rattle.typed_writer.proofs.writing.write16.Statement.{statement}
 use Rattle.typed_writer.proofs.writing.write16.Tie as tie
 
@@ -32,11 +32,7 @@ store16-requires : tie.Need-store16-requires
 store16-requires c κs = search needs
 
 add-t11 : tie.Need-add-t11
-add-t11 c =
-    let s = c .before .before .store16 .ensures in
-    let e = c .before .before .before .before in
-    let a = e .before .before .args in
-    omega (arith, behind-code (a .code) (bytesOf 2 (a .pattern)) (now (a .out)) (e .if1 .left) (s .0) (s .1) .counted)
+add-t11 c = omega (arith, most _ _ (c .before .before .store16 .ensures .0))
 
 same-length : tie.Need-same-length
 same-length c = c .before .out .given .1 ∙ simp length-set
@@ -44,9 +40,8 @@ same-length c = c .before .out .given .1 ∙ simp length-set
 returns-2 : tie.Need-returns-2
 returns-2 c =
     let s = c .before .before .store16 .ensures in
-    let e = c .before .before .before .before in
-    let a = e .before .before .args in
-    stored (e .if1 .left) (behind-code (a .code) (bytesOf 2 (a .pattern)) (now (a .out)) (e .if1 .left) (s .0) (s .1))
+    let room = c .before .before .before .before .if1 .left in
+    stored room (behind-code (s .0) (s .1) room)
 
 pub write16-spec : {M : Type 1} → statement M
 write16-spec =
