@@ -72,6 +72,10 @@ pub stores : (p l : List ℕ) → length p ≤ length l → AtFront p l (sets l 
 stores p l h =
     record { counted = refl; bytes = sets-eq p l 0 (omega arith) ∙ ap (λ (n : ℕ). p ++ drop n l) (zero-add (length p)) }
 
+-- copies all of p to the front
+pub copied : (p l : List ℕ) {after : List ℕ} {count : ℕ} → count ≡ length p → after ≡ take (length p) p ++ drop (length p) l → AtFront p l after count
+copied p l c b = record { counted = c; bytes = b ∙ ap (λ (x : List ℕ). x ++ drop (length p) l) (take-length p) }
+
 -- what fits is stored
 pub at-front : {p l after : List ℕ} {count : ℕ} → count ≡ countOf p l → after ≡ frontOf p l → length p ≤ length l → AtFront p l after count
 unfolding countOf frontOf

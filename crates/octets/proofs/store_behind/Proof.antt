@@ -1,14 +1,11 @@
 -- `octets::store_behind` meets its contract: all is copied where it fits in what is lent from n on.
-use mathlib.Core.Path.{ap, _∙_}
-use mathlib.Core.List.{List, _++_}
-use Prim.Native.Nat.{ℕ, _-_}
+use Prim.Native.Nat.{_-_}
 use native.Mathlib.Omega.{arith}
-use lib.ListN.{length, drop}
-use lib.Seq.{take-length}
+use lib.ListN.{length}
 use denote.Ref.{now}
 use borrow.Rule.Slice.PartMut.{midOf}
 use borrow.Author.Needs.{needs}
-use Rattle.octets.specs.Front.{none-behind, all-behind}
+use Rattle.octets.specs.Front.{none-behind, all-behind, copied}
 use Rattle.octets.proofs.store_behind.Statement.{statement}
 use Rattle.octets.proofs.store_behind.Tie as tie
 
@@ -47,11 +44,9 @@ returns-3 : tie.Need-returns-3
 returns-3 c =
     let k = c .before .before in
     let a = k .before .before .before .before .before .before .args in
-    let s = now (a .source) in
-    let d = midOf (a .n) (length (now (a .out)) - a .n) (now (a .out)) in
     let e = k .copy .ensures in
     all-behind (a .n) (now (a .out)) (omega arith)
-    (record { counted = e .0; bytes = e .1 ∙ ap (λ (x : List ℕ). x ++ drop (length s) d) (take-length s) })
+    (copied (now (a .source)) (midOf (a .n) (length (now (a .out)) - a .n) (now (a .out))) (e .0) (e .1))
 
 pub store-behind-spec : {M : Type 1} → statement M
 store-behind-spec =
