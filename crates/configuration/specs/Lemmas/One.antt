@@ -5,8 +5,8 @@ use Prim.Native.Nat.{ℕ, _+_, _≤_, _<_}
 use native.Mathlib.Omega.{arith}
 use lib.ListN.{length, take, drop, length-append, length-drop, take-append-drop}
 use lib.Seq.{getD-drop, drop-drop, drop-at, drop-append-seam, take-append-seam}
-use lib.Dec.{eqb, ltb, leb}
-use borrow.Author.Tests.{le-ltb, ne-eqb, le-leb, ltb-false, eqb-false}
+use lib.Dec.{leb}
+use borrow.Author.Tests.{le-ltb, ne-eqb, le-leb}
 use Rattle.octets.specs.Choice.{by-pick}
 use Rattle.octets.specs.Bytes.{Bytes}
 use Rattle.octets.specs.Part.{partOf}
@@ -17,7 +17,7 @@ use Rattle.configuration.specs.Contents.{Reads, Again}
 use Rattle.configuration.specs.Lemmas.Sides.{side-bytes-length, special-length}
 use Rattle.configuration.specs.Lemmas.Back.{no-vendor, module-read}
 use Rattle.configuration.specs.Lemmas.Again.{module-again}
-use Rattle.configuration.specs.Lemmas.Steps.{SizedIf, sized, part-drop}
+use Rattle.configuration.specs.Lemmas.Steps.{SizedIf, by-next, part-drop}
 use Rattle.configuration.specs.declared.fields.Side.{Side}
 use Rattle.configuration.specs.declared.fields.Identifier.{Identifier}
 use Rattle.configuration.specs.declared.fields.Identifier.the-variants.{General, Special}
@@ -139,14 +139,7 @@ module _ (s : List ℕ) (bytes : Bytes s) (at : ℕ) where
       }
 
   again-if : AgainIf s at (nextOf s at)
-  unfolding nextOf
-  again-if =
-      by-pick (AgainIf s at) (ltb (length s) at) (λ _. tt)
-      (λ p. by-pick (AgainIf s at) (eqb at (length s)) (λ _. tt)
-      (λ q.
-      let ne : at ≡ length s → ⊥ = eqb-false at (length s) q in
-      let h : at < length s = omega (arith, ltb-false (length s) at p) in
-      by-found h (moduleIn (drop at s)) (sized (drop at s) (omega (arith, length-drop at s))) refl))
+  again-if = by-next (AgainIf s at) s at (λ _. tt) (λ _. tt) by-found
 
   pub again : {m : Module} {start len : ℕ} {next : Position} → nextOf s at ≡ step.Module m start len next → Again s at m start len (next .at)
   again e = subst (AgainIf s at) e again-if

@@ -16,6 +16,7 @@ use Rattle.configuration.specs.Reading.{inputOf, outputOf}
 use Rattle.configuration.specs.Contents.{Stands, Says}
 use Rattle.configuration.specs.declared.fields.Module.{Module}
 use Rattle.configuration.specs.declared.walk.Position.{Position}
+use Rattle.configuration.specs.declared.walk.Step.{Step}
 use Rattle.configuration.specs.declared.walk.Step.the-variants as step
 
 -- ---- how large a module is, of which `left` bytes are there
@@ -76,6 +77,18 @@ part-drop s at start len h =
     let a : start + len ≤ length (drop at s) = omega (arith, length-drop at s) in
     simp (le-leb _ _ a, le-leb _ _ h, drop-drop)
 
+-- what holds past the end, at the end, and of whatever is found before it, holds of the step
+pub by-next : (P : Step → Type 0) (s : List ℕ) (at : ℕ) → (length s < at → P (step.Refused (record { number = 12 }))) → (at ≡ length s → P step.End)
+    → (at < length s → (f : Found) → SizedIf (length (drop at s)) f → moduleIn (drop at s) ≡ f → P (stepOf at f)) → P (nextOf s at)
+unfolding nextOf
+by-next P s at past last found =
+    by-pick P (ltb (length s) at) (λ p. past (ltb-true (length s) at p))
+    (λ p. by-pick P (eqb at (length s)) (λ q. last (eqb-true at (length s) q))
+    (λ q.
+    let ne : at ≡ length s → ⊥ = eqb-false at (length s) q in
+    let h : at < length s = omega (arith, ltb-false (length s) at p) in
+    found h (moduleIn (drop at s)) (sized (drop at s) (omega (arith, length-drop at s))) refl))
+
 module _ (s : List ℕ) (at : ℕ) where
   opened : at < length s → walkOf (drop at s) 0 ≡ after (moduleIn (drop at s)) (drop at s) (walkOf (drop (suc at) s))
   unfolding walkOf
@@ -107,14 +120,7 @@ module _ (s : List ℕ) (at : ℕ) where
   ended e = rw (e, drop-length s)
 
   pub says : Says s at (nextOf s at)
-  unfolding nextOf
-  says =
-      by-pick (Says s at) (ltb (length s) at) (λ p q. absurd (let h : length s < at = ltb-true (length s) at p in omega arith))
-      (λ p. by-pick (Says s at) (eqb at (length s)) (λ q. (eqb-true at (length s) q, ended (eqb-true at (length s) q)))
-      (λ q.
-      let ne : at ≡ length s → ⊥ = eqb-false at (length s) q in
-      let h : at < length s = omega (arith, ltb-false (length s) at p) in
-      by-found h (moduleIn (drop at s)) (sized (drop at s) (omega (arith, length-drop at s))) refl))
+  says = by-next (Says s at) s at (λ p q. absurd (omega arith)) (λ e. (e, ended e)) by-found
 
   -- the three outcomes
   pub stands : {m : Module} {start len : ℕ} {next : Position} → nextOf s at ≡ step.Module m start len next → Stands s at m start len (next .at)
