@@ -22,9 +22,10 @@ pub begins : (slots lengths : List ℕ) → Running (tableOf 0 0 slots lengths) 
 begins slots lengths = record { low = omega arith; small = omega arith; same = refl }
 
 module _ {whole : Table} {k least total x n : ℕ} {slots lengths : List ℕ} (r : Running whole k least total (x ∷ slots) (n ∷ lengths)) where
-  opened : further (pairOf least total x n) (λ t. tableOf (x + 1) t slots lengths) ≡ whole
+  -- what is left after the pair, by what the pair comes to
+  after : (w : Table) → pairOf least total x n ≡ w → further w (λ t. tableOf (x + 1) t slots lengths) ≡ whole
   unfolding tableOf
-  opened = r .same
+  after w e = sym (ap (λ (v : Table). further v (λ t. tableOf (x + 1) t slots lengths)) e) ∙ r .same
 
   pub goes : {t : ℕ} → pairOf least total x n ≡ Total t → Running whole (k + 1) (x + 1) t slots lengths
   goes e =
@@ -32,11 +33,11 @@ module _ {whole : Table} {k least total x n : ℕ} {slots lengths : List ℕ} (r
       record {
         low = omega (arith, g .0 .slot);
         small = omega (arith, r .small, g .0 .most, g .1);
-        same = sym (ap (λ (w : Table). further w (λ t. tableOf (x + 1) t slots lengths)) e) ∙ opened;
+        same = after _ e;
       }
 
   pub breaks : {f : Refusal} → pairOf least total x n ≡ Refused f → Refused f ≡ whole
-  breaks e = sym (ap (λ (w : Table). further w (λ t. tableOf (x + 1) t slots lengths)) e) ∙ opened
+  breaks e = after _ e
 
 pub done : {whole : Table} {k least total : ℕ} {lengths : List ℕ} → Running whole k least total [] lengths → Total total ≡ whole
 unfolding tableOf
