@@ -102,8 +102,6 @@ negative-changes-nothing diag n s x fcb sa slot index body {code1} {code2} {wait
   where
     by : (b : Bool)
         → (let y : Heard = pick b (record { station = x; reply = x .printer .held }) (newCall diag x fcb sa (perform (x .printer .boarding) n (x .printer .pending) (x .slots) (x .printer .writes) (write slot index body))) in
-        y .station .printer .pending ≡ pending.Result (outcome.Negative code1 code2) wait)
-        → (let y : Heard = pick b (record { station = x; reply = x .printer .held }) (newCall diag x fcb sa (perform (x .printer .boarding) n (x .printer .pending) (x .slots) (x .printer .writes) (write slot index body))) in
-        y .station .slots ≡ x .slots)
+        y .station .printer .pending ≡ pending.Result (outcome.Negative code1 code2) wait → y .station .slots ≡ x .slots)
     by true k = refl
     by false k = by-result (x .printer .boarding) n (x .printer .pending) (x .slots) (x .printer .writes) slot index body k
