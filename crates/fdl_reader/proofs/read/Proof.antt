@@ -2,8 +2,8 @@
 use mathlib.Core.Path.{_≡_, _∙_, subst}
 use denote.Ref.{now}
 use Rattle.fdl.specs.Reading.{readOf}
-use Rattle.fdl_reader.specs.Leading.{Leads}
-use Rattle.fdl_reader.specs.declared.Leading.{Leading}
+use Rattle.fdl_leading.specs.Leading.{Leads}
+use Rattle.fdl_leading.specs.declared.Leading.{Leading}
 use borrow.Author.Needs.{needs}
 use Rattle.fdl_reader.proofs.read.Statement.{statement}
 use Rattle.fdl_reader.proofs.read.Tie as tie

@@ -5,8 +5,8 @@ use mathlib.Core.List.{List}
 use Rattle.function_code.specs.Code.{classOf}
 use Rattle.fdl.specs.Reading.{framedOf}
 use Rattle.fdl.specs.declared.reading.Reading.{Reading}
-use Rattle.fdl_reader.specs.declared.Leading.{Leading}
-use Rattle.fdl_reader.specs.declared.Leading.the-variants.{Framed, Is}
+use Rattle.fdl_leading.specs.declared.Leading.{Leading}
+use Rattle.fdl_leading.specs.declared.Leading.the-variants.{Framed, Is}
 
 -- the bytes s are read as this; DA stands behind four bytes at the most, and no PDU is longer than 246
 abbrev pub Leads : (s : List ℕ) → Reading → Leading → Type 0

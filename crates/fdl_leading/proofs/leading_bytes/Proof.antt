@@ -1,10 +1,10 @@
--- `fdl_reader::leading_bytes` meets its contract. The definition goes by the same start bytes.
+-- `fdl_leading::leading_bytes` meets its contract. The definition goes by the same start bytes.
 use native.Mathlib.Omega.{arith}
 use borrow.Author.Tests.{eq-eqb, ne-eqb}
 use Rattle.fdl.specs.Reading.{readBy}
 use borrow.Author.Needs.{needs}
-use Rattle.fdl_reader.proofs.leading_bytes.Statement.{statement}
-use Rattle.fdl_reader.proofs.leading_bytes.Tie as tie
+use Rattle.fdl_leading.proofs.leading_bytes.Statement.{statement}
+use Rattle.fdl_leading.proofs.leading_bytes.Tie as tie
 
 returns : tie.Need-returns
 unfolding readBy

@@ -1,10 +1,10 @@
--- `fdl_reader::sd2` meets its contract. The definition has the same tests in the same order.
+-- `fdl_leading::sd2` meets its contract. The definition has the same tests in the same order.
 use native.Mathlib.Omega.{arith}
 use Rattle.fdl.specs.Reading.{sd2Of}
 use borrow.Author.Tests.{lt-ltb, le-ltb, eq-eqb, ne-eqb}
 use borrow.Author.Needs.{needs}
-use Rattle.fdl_reader.proofs.sd2.Statement.{statement}
-use Rattle.fdl_reader.proofs.sd2.Tie as tie
+use Rattle.fdl_leading.proofs.sd2.Statement.{statement}
+use Rattle.fdl_leading.proofs.sd2.Tie as tie
 
 returns : tie.Need-returns
 unfolding sd2Of
