@@ -68,7 +68,7 @@ pub extern "C" fn rabtunex_read_service(bytes: &[u8], version: u8, fields: &mut 
     if 1 < version {
         return 12;
     }
-    let reading = service::read(bytes, mode_of(version));
+    let reading = service_reader::read(bytes, mode_of(version));
     match reading {
         Reading::Service {
             format,

@@ -52,7 +52,7 @@ fn heard(
     if !is_printers(settings, format, header) {
         return Reply::Other;
     }
-    reply_by(service::carried(reply, reading, Mode::Dpv1))
+    reply_by(service_reader::carried(reply, reading, Mode::Dpv1))
 }
 
 // What the bytes that came back are to a controller with these settings.

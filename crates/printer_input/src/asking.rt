@@ -108,5 +108,5 @@ pub(crate) fn asked_in(telegram: &[u8], reading: Reading, fc: u8) -> Ask
     if !is_srd(fc) {
         return Ask::Unknown;
     }
-    asked_by(service::carried(telegram, reading, Mode::Dpv1))
+    asked_by(service_reader::carried(telegram, reading, Mode::Dpv1))
 }

@@ -89,7 +89,7 @@ fn refused_line(number: u8) {
 
 // The lines of the service that a telegram with these user data carries. Parameters are read as DPV1.
 pub(crate) fn service_lines(bytes: &[u8], user: &[u8]) {
-    match service::read(bytes, Mode::Dpv1) {
+    match service_reader::read(bytes, Mode::Dpv1) {
         Reading::Service {
             format: _,
             header: _,

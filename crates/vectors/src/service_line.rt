@@ -61,7 +61,7 @@ fn content_words(content: Content) {
 }
 
 pub(crate) fn service_line(bytes: &[u8], mode: Mode, out: &mut [u8]) {
-    match service::read(bytes, mode) {
+    match service_reader::read(bytes, mode) {
         Reading::Refused(refusal) => {
             refused(refusal);
             text(b"\n");

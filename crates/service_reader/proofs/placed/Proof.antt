@@ -1,11 +1,11 @@
--- `service::reading::placed` meets its contract: by what the user data are; the part ends where a number can say.
+-- `service_reader::placed` meets its contract: by what the user data are; the part ends where a number can say.
 use Prim.Native.Nat.{_+_}
 use Rattle.content.specs.Reading.{endOf}
 use mathlib.Core.Path.{_≡_, ap}
 use native.Mathlib.Omega.{arith}
 use borrow.Author.Needs.{needs}
-use Rattle.service.proofs.reading.placed.Statement.{statement}
-use Rattle.service.proofs.reading.placed.Tie as tie
+use Rattle.service_reader.proofs.placed.Statement.{statement}
+use Rattle.service_reader.proofs.placed.Tie as tie
 
 enum-known-found : tie.Need-enum-known-found
 enum-known-found c = search needs

@@ -1,15 +1,15 @@
--- `service::reading::routed` meets its contract: by the route, and the part lies inside the user data.
+-- `service_reader::routed` meets its contract: by the route, and the part lies inside the user data.
 use mathlib.Core.Path.{sym, ap, _∙_}
 use native.Mathlib.Omega.{arith}
 use denote.Ref.{now}
 use Rattle.content.specs.Reading.{endOf}
 use Rattle.content.specs.Lemmas.Inside.{call-inside, answer-inside}
 use Rattle.service.specs.Reading.{placedAt, routedBy}
 use Rattle.service.specs.declared.reading.Way.the-variants as way
 use Rattle.access.specs.declared.route.Route.{Route}
 use borrow.Author.Needs.{needs}
-use Rattle.service.proofs.reading.routed.Statement.{statement}
-use Rattle.service.proofs.reading.routed.Tie as tie
+use Rattle.service_reader.proofs.routed.Statement.{statement}
+use Rattle.service_reader.proofs.routed.Tie as tie
 
 route-of-requires : tie.Need-route-of-requires
 route-of-requires c κs = search needs

@@ -1,10 +1,10 @@
--- `service::reading::read` meets its contract: what the telegram that was read carries.
+-- `service_reader::read` meets its contract: what the telegram that was read carries.
 use mathlib.Core.Path.{ap, _∙_}
 use denote.Ref.{now}
 use Rattle.service.specs.Reading.{serviceIn, readOf}
 use borrow.Author.Needs.{needs}
-use Rattle.service.proofs.reading.read.Statement.{statement}
-use Rattle.service.proofs.reading.read.Tie as tie
+use Rattle.service_reader.proofs.read.Statement.{statement}
+use Rattle.service_reader.proofs.read.Tie as tie
 
 read-requires : tie.Need-read-requires
 read-requires c κs = search needs

@@ -1,4 +1,4 @@
--- `service::reading::carried` meets its contract: by what the telegram is; the part that is handed back ends where a number can say.
+-- `service_reader::carried` meets its contract: by what the telegram is; the part that is handed back ends where a number can say.
 use Prim.Native.Nat.{ℕ, _+_, _≤_}
 use mathlib.Core.Path.{sym, ap, _∙_}
 use mathlib.Core.List.{List}
@@ -10,10 +10,10 @@ use borrow.Author.Tests.{leb-true}
 use Rattle.octets.specs.Choice.{by-pick}
 use Rattle.octets.specs.Part.{partOf, part-short}
 use Rattle.access.specs.Route.{routeOf}
 use Rattle.service.specs.Reading.{routedBy, serviceIn}
 use borrow.Author.Needs.{needs}
-use Rattle.service.proofs.reading.carried.Statement.{statement}
-use Rattle.service.proofs.reading.carried.Tie as tie
+use Rattle.service_reader.proofs.carried.Statement.{statement}
+use Rattle.service_reader.proofs.carried.Tie as tie
 
 -- a part lies inside, or is empty
 ends : (s : List ℕ) (start len most : ℕ) → start ≤ most → length s ≤ most → start + length (partOf s start len) ≤ most
