@@ -15,7 +15,7 @@ pub extern "C" fn rabtunex_read_diagnosis(bytes: &[u8], fields: &mut [usize; 6])
     ensures refusal { λ r. ⌜ r ≡ refusalOf (readOf (now (bytes .entry))) ⌝ }
     ensures fields { λ _. ⌜ now (fields .exit) ≡ fieldsAfter (readOf (now (bytes .entry))) (now (fields .entry)) ⌝ }
 {
-    let reading = diagnosis::read(bytes);
+    let reading = diagnosis_reader::read(bytes);
     match reading {
         Reading::Diagnosis { header, blocks } => {
             *fields = [
@@ -83,7 +83,7 @@ pub extern "C" fn rabtunex_next_block(
     ensures block { λ _. ⌜ now (block .exit) ≡ blockAfter (nextOf (now (bytes .entry)) (now (position .entry))) (now (block .entry)) ⌝ }
 {
     let at = *position;
-    let step = diagnosis::next(bytes, Position { at });
+    let step = diagnosis_walk::next(bytes, Position { at });
     match step {
         Step::Block(found, next) => {
             put_block(found, block);

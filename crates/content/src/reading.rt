@@ -84,7 +84,7 @@ fn read_command(user: &[u8]) -> UserData
 fn read_diagnosis(user: &[u8]) -> UserData
     ensures { λ r. ⌜ r ≡ diagnosisOf (now (user .entry)) ⌝ }
 {
-    let reading = diagnosis::read(user);
+    let reading = diagnosis_reader::read(user);
     match reading {
         diagnosis::Reading::Diagnosis { header, blocks: _ } => UserData::Is {
             content: Content::SlaveDiag(header),

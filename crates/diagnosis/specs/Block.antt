@@ -50,6 +50,6 @@ foundBy head second third left =
     (pick (eqb (head / 64) 1) (sizedOf Module head left)
     (pick (eqb (head / 64) 2) (channelOf second third left) (refused 23)))
 
--- the block at a place
+-- the block at a place; past the end as where a 0 stands, which is refused
 abbrev pub foundAt : List ℕ → (at : ℕ) → Found
 foundAt s at = foundBy (getD s at 0) (getD s (at + 1) 0) (getD s (at + 2) 0) (length s - at)

@@ -1,5 +1,5 @@
 // Writing a slave diagnosis, whole or block by block (document 01, "Diagnosis"), held to the definitions of
-// the crate diagnosis, which reads it.
+// the crate diagnosis.
 mod writing;
 
 pub use writing::write;

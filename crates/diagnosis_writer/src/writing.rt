@@ -8,8 +8,8 @@ ghost use Rattle.diagnosis.specs.Writing.{headerBytes, diagnosisBytes, verdictO
 use diagnosis::Channel;
 use diagnosis::Count;
 use diagnosis::Header;
-use diagnosis::blocks_behind;
 use diagnosis::good_code;
+use diagnosis_reader::blocks_behind;
 use octets::Written;
 
 fn put_header(header: Header, out: &mut [u8]) -> usize

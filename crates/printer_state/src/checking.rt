@@ -51,7 +51,7 @@ pub fn usable(
     if long_slot(lengths) {
         return Check::Refused(12);
     }
-    if is_refused(diagnosis::read(diagnosis)) {
+    if is_refused(diagnosis_reader::read(diagnosis)) {
         return Check::Refused(12);
     }
     if reply.len() < 255 {

@@ -126,10 +126,10 @@ fn block_line(block: Block, user: &[u8]) {
 
 // A proved loop has to end: it counts its turns down, from more than a telegram has blocks.
 fn block_lines(user: &[u8]) {
-    let mut position = diagnosis::first();
+    let mut position = diagnosis_walk::first();
     let mut turns: usize = 256;
     while 0 < turns {
-        let step = diagnosis::next(user, position);
+        let step = diagnosis_walk::next(user, position);
         let Step::Block(block, next) = step else {
             return;
         };

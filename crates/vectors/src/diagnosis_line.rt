@@ -57,10 +57,10 @@ fn blocks_end(step: diagnosis::Step) {
 
 // No data has as many blocks as the turns that are counted down.
 fn blocks(bytes: &[u8]) {
-    let mut position = diagnosis::first();
+    let mut position = diagnosis_walk::first();
     let mut turns: usize = 4097;
     while 0 < turns {
-        let step = diagnosis::next(bytes, position);
+        let step = diagnosis_walk::next(bytes, position);
         let diagnosis::Step::Block(found, next) = step else {
             blocks_end(step);
             return;
@@ -80,7 +80,7 @@ pub(crate) fn header_words(header: diagnosis::Header) {
 }
 
 pub(crate) fn diagnosis_line(bytes: &[u8], out: &mut [u8]) {
-    match diagnosis::read(bytes) {
+    match diagnosis_reader::read(bytes) {
         diagnosis::Reading::Refused(refusal) => {
             refused(refusal);
             blocks(bytes);
