@@ -130,7 +130,7 @@ fn write_kind(kind: Kind, fields: &[u8; 8], user: &[u8], out: &mut [u8]) -> Writ
             }
             framing::write_token(fields[1], fields[2], out)
         }
-        Kind::Telegram(format) => framing::write(format, header_of(fields), user, out),
+        Kind::Telegram(format) => fdl_writer::write(format, header_of(fields), user, out),
         Kind::Unknown => Written::Refused(12),
     }
 }

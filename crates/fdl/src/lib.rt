@@ -1,5 +1,5 @@
 // PROFIBUS data link (FDL) telegrams (document 01, "Telegram layouts"): their fields, their checksum, and the
-// definitions and laws of both ways; the crate fdl_reader reads, and framing writes.
+// definitions and laws of both ways; the crate fdl_reader reads, framing and fdl_writer write.
 mod reading;
 mod telegram;
 

@@ -68,7 +68,7 @@ pub(crate) fn say_bare(status: Status, address: u8, to: u8, out: &mut [u8]) -> u
         dsap: Sap::Absent,
         ssap: Sap::Absent,
     };
-    stored(framing::write_around(Format::Sd1, header, 0, out))
+    stored(fdl_writer::write_around(Format::Sd1, header, 0, out))
 }
 
 fn say_diagnosis(diagnosis: &[u8], address: u8, to: u8, out: &mut [u8]) -> u8
@@ -76,7 +76,7 @@ fn say_diagnosis(diagnosis: &[u8], address: u8, to: u8, out: &mut [u8]) -> u8
     ensures { λ r. ⌜ AtFront (diagnosisBytes to address (now (diagnosis .entry))) (now (out .entry)) (now (out .exit)) r ⌝ }
 {
     let header = access::header_of(Service::SlaveDiag, to, address, DATA);
-    stored(framing::write(Format::Sd2, header, diagnosis, out))
+    stored(fdl_writer::write(Format::Sd2, header, diagnosis, out))
 }
 
 // The four bytes of a result: 5F with slot, index and length, or DF with decode 128 and both codes.
@@ -113,7 +113,7 @@ fn say_result(outcome: Outcome, address: u8, to: u8, out: &mut [u8]) -> u8
     let header = access::header_of(Service::Dpv1, to, address, DATA);
     let start = framing::user_start(Format::Sd2, header);
     let len = put_result(outcome, &mut out[start..]);
-    stored(framing::write_around(Format::Sd2, header, len, out))
+    stored(fdl_writer::write_around(Format::Sd2, header, len, out))
 }
 
 // Makes a reply to the station `to` at the front of out, and answers how many bytes it has.

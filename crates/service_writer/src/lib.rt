@@ -71,7 +71,7 @@ fn write_way(
     }
     let written = write_data(way, content, part, &mut out[start..]);
     match written {
-        Written::Stored(stored) => framing::write_around(format, header, stored, out),
+        Written::Stored(stored) => fdl_writer::write_around(format, header, stored, out),
         Written::Refused(number) => Written::Refused(number),
     }
 }
