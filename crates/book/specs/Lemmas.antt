@@ -1,4 +1,5 @@
 pub mod Pairs
+pub mod Running
 pub mod Good
 pub mod Parts
 pub mod Fit

@@ -1,9 +1,10 @@
 -- The table of a book (document 01, "A book"): slots and lengths in pairs.
+use mathlib.Core.Bool.{Bool}
 use mathlib.Core.List.{List, [], _∷_}
 use Prim.Native.Nat.{ℕ, zero, suc, _+_}
 use lib.ListN.{getD}
-use lib.Dec.{ltb}
-use Rattle.octets.specs.Choice.{pick}
+use lib.Dec.{leb}
+use Rattle.octets.specs.Choice.{pick, _and_}
 use Rattle.book.specs.declared.table.Table.{Table}
 use Rattle.book.specs.declared.table.Table.the-variants.{Total, Refused}
 
@@ -21,13 +22,13 @@ sumOf (x ∷ xs) = x + sumOf xs
 abbrev pub wrong : Table
 wrong = Refused (record { number = 32 })
 
--- A slot x, `least` to 15, and its length n, 1 to 200, which is added to the total.
+-- a slot x, `least` to 15, and its length n, 1 to 200
+unfoldable pub goodPair : (least x n : ℕ) → Bool
+goodPair least x n = leb least x and leb x 15 and leb 1 n and leb n 200
+
+-- the length of a good pair is added to the total
 unfoldable pub pairOf : (least total x n : ℕ) → Table
-pairOf least total x n =
-    pick (ltb x least) wrong
-    (pick (ltb 15 x) wrong
-    (pick (ltb n 1) wrong
-    (pick (ltb 200 n) wrong (Total (total + n)))))
+pairOf least total x n = pick (goodPair least x n) (Total (total + n)) wrong
 
 -- what follows a pair that is not refused
 abbrev pub further : Table → (ℕ → Table) → Table

@@ -1,13 +1,9 @@
-// A book of templates: reading it, finding a template in it and writing it (document 01, "A book").
+// A book of templates (document 01, "A book"): what reading and finding answer, and the judgement that its reader and
+// its writer share.
 mod answers;
-mod reading;
 mod table;
-mod templates;
-mod writing;
 
 pub use answers::Reading;
 pub use answers::Template;
-pub use reading::read;
-pub use templates::listed;
-pub use templates::template;
-pub use writing::write;
+pub use table::Table;
+pub use table::good_pair;

@@ -15,7 +15,7 @@ pub extern "C" fn rabtunex_read_book(bytes: &[u8], count: &mut usize) -> u8
     ensures refusal { λ r. ⌜ r ≡ refusalOf (readOf (now (bytes .entry))) ⌝ }
     ensures count { λ _. ⌜ now (count .exit) ≡ templatesAfter (readOf (now (bytes .entry))) (now (count .entry)) ⌝ }
 {
-    let reading = book::read(bytes);
+    let reading = book_reader::read(bytes);
     match reading {
         Reading::Book { count: templates } => {
             *count = templates;
@@ -31,7 +31,7 @@ pub extern "C" fn rabtunex_book_template(bytes: &[u8], k: usize, fields: &mut [u
     ensures refusal { λ r. ⌜ r ≡ templateRefusal (templateOf (now (bytes .entry)) k) ⌝ }
     ensures fields { λ _. ⌜ now (fields .exit) ≡ fieldsAfter (templateOf (now (bytes .entry)) k) (now (fields .entry)) ⌝ }
 {
-    let found = book::template(bytes, k);
+    let found = book_reader::template(bytes, k);
     match found {
         Template::Is { slot, start, len } => {
             *fields = [slot as usize, start, len];
@@ -54,6 +54,6 @@ pub extern "C" fn rabtunex_write_book(
     ensures bytes { λ _. ⌜ now (out .exit) ≡ heldOf (now (slots .entry)) (now (lengths .entry)) (now (bodies .entry)) (now (out .entry)) ⌝ }
     ensures count { λ _. ⌜ now (stored .exit) ≡ countAfter (answerOf (now (slots .entry)) (now (lengths .entry)) (now (bodies .entry)) (length (now (out .entry)))) (now (stored .entry)) ⌝ }
 {
-    let written = book::write(slots, lengths, bodies, out);
+    let written = book_writer::write(slots, lengths, bodies, out);
     store_count(written, stored)
 }

@@ -105,7 +105,7 @@ fn put_write(
     requires { ⌜ (Settled settings) × (Accepted (now book)) × (1 ≤ template) ⌝ }
     ensures { λ r. ⌜ leaving r (now (request .exit)) ≡ acted (askFor settings template job.Write fcb repeats (drop (template - 1) (templatesOf (now (book .entry))))) (now (request .entry)) ⌝ }
 {
-    let found = book::listed(book, template as usize);
+    let found = book_reader::listed(book, template as usize);
     let Template::Is { slot, start, len } = found else {
         return Action::End(Ending::Done);
     };

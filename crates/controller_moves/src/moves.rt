@@ -124,7 +124,7 @@ fn settled(
     requires { ⌜ (Accepted (now book)) × (1 ≤ template) ⌝ }
     ensures { λ r. ⌜ Says settings (templatesOf (now (book .entry))) r (settledBy settings template fcb slot index length (drop (template - 1) (templatesOf (now (book .entry))))) ⌝ }
 {
-    let found = book::listed(book, template as usize);
+    let found = book_reader::listed(book, template as usize);
     let Template::Is {
         slot: own,
         start: _,

@@ -138,7 +138,7 @@ fn state_usable(settings: Settings, count: usize, controller: Controller) -> Che
 fn book_usable(settings: Settings, book: &[u8], controller: Controller) -> Check
     ensures { λ r. ⌜ verdictIn r ≡ judged fault (bookVerdict (readOf (now (book .entry)))) (stateVerdict settings (length (templatesOf (now (book .entry)))) controller) ⌝ }
 {
-    let reading = book::read(book);
+    let reading = book_reader::read(book);
     match reading {
         Reading::Refused(refusal) => Check::Refused(refusal.number),
         Reading::Book { count } => state_usable(settings, count, controller),

@@ -15,7 +15,7 @@ use protocol::Settings;
 fn book_check(book: &[u8]) -> Check
     ensures { λ r. ⌜ verdictIn r ≡ bookVerdict (book-format.readOf (now (book .entry))) ⌝ }
 {
-    let reading = book::read(book);
+    let reading = book_reader::read(book);
     match reading {
         Reading::Book { count: _ } => Check::Fine,
         Reading::Refused(refusal) => Check::Refused(refusal.number),

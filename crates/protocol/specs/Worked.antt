@@ -24,7 +24,7 @@ use Rattle.content.specs.Writing.{bytesFor}
 use Rattle.service.specs.Reading.{readOf}
 use Rattle.service.specs.Writing.{telegramFor}
 use Rattle.book.specs.Reading as book
-use Rattle.book.specs.Table.{pairOf, tableOf}
+use Rattle.book.specs.Table.{goodPair, pairOf, tableOf}
 use Rattle.protocol.specs.Line as line
 use Rattle.protocol.specs.Line.{Sending, through, stop}
 use Rattle.protocol.specs.Slots.{Slot, slotIn}
@@ -117,7 +117,7 @@ pub record Rows : Type 0 where
   pub kept : slot7 true ≡ record { len = 0; bytes = replicate 200 0 }
 
 pub worked-download : Rows
-unfolding line.run line.transcript partOf classOf extensionOf sourceOf destinationOf tokenOf fieldsOf framedOf sd2Of readBy checksumOf coreOf telegramOf goodCode channelOf foundBy goodStatus1 goodStatus2 goodMaster blocksIn extDiagAgrees judge diagnosis.readOf kindOf headerOf routeOf services look rowAt answers.readAnswerOf answers.fourOf answers.negativeBy calls.readCallOf calls.fourOf namedIn goodCode1 aloneOf rangedOf countedOf countedAsOf negativeOf byNumber whereAllowed emptyOf callOf answerOf bytesFor readOf telegramFor heldBehind printer-step.judge askIn receivedOf hear gotIn moveOf download settingsVerdict lineVerdict verdictOf printer-step.verdictOf book.readOf book.bodiesBy tableOf pairOf
+unfolding line.run line.transcript partOf classOf extensionOf sourceOf destinationOf tokenOf fieldsOf framedOf sd2Of readBy checksumOf coreOf telegramOf goodCode channelOf foundBy goodStatus1 goodStatus2 goodMaster blocksIn extDiagAgrees judge diagnosis.readOf kindOf headerOf routeOf services look rowAt answers.readAnswerOf answers.fourOf answers.negativeBy calls.readCallOf calls.fourOf namedIn goodCode1 aloneOf rangedOf countedOf countedAsOf negativeOf byNumber whereAllowed emptyOf callOf answerOf bytesFor readOf telegramFor heldBehind printer-step.judge askIn receivedOf hear gotIn moveOf download settingsVerdict lineVerdict verdictOf printer-step.verdictOf book.readOf book.bodiesBy tableOf pairOf goodPair
 worked-download =
     record {
       taken = by;

@@ -28,7 +28,7 @@ fn templates_end(found: Template) {
 fn templates(bytes: &[u8]) {
     let mut k: usize = 1;
     while k < 18 {
-        let found = book::template(bytes, k);
+        let found = book_reader::template(bytes, k);
         let Template::Is { slot, start, len } = found else {
             templates_end(found);
             return;
@@ -68,7 +68,7 @@ fn written_again(count: usize, bytes: &[u8], out: &mut [u8]) {
     let mut slots = [0u8; 16];
     let mut lengths = [0u8; 16];
     take_apart(bytes, &mut slots, &mut lengths);
-    let written = book::write(
+    let written = book_writer::write(
         octets::part(&slots, 0, count),
         octets::part(&lengths, 0, count),
         behind(bytes, 1 + 2 * count),
@@ -78,7 +78,7 @@ fn written_again(count: usize, bytes: &[u8], out: &mut [u8]) {
 }
 
 pub(crate) fn book_line(bytes: &[u8], out: &mut [u8]) {
-    match book::read(bytes) {
+    match book_reader::read(bytes) {
         Reading::Refused(refusal) => {
             refused(refusal);
             templates(bytes);
@@ -101,7 +101,7 @@ fn after_slots(slots: &[u8], count: u8, fields: &[u8], out: &mut [u8]) {
         malformed();
         return;
     }
-    let written = book::write(slots, octets::part(fields, 0, n), behind(fields, n), out);
+    let written = book_writer::write(slots, octets::part(fields, 0, n), behind(fields, n), out);
     stored(written, out);
 }
 

@@ -1,13 +1,14 @@
 -- A pair of a table, and every second byte.
 use mathlib.Core.Path.{_≡_, refl, ap, _∙_, subst}
+use mathlib.Core.Bool.{Bool, true}
 use mathlib.Core.List.{List, _∷_}
 use Prim.Native.Nat.{ℕ, zero, suc, _+_, _-_, _*_, _≤_, _<_}
 use native.Mathlib.Omega.{arith}
 use lib.ListN.{getD, take}
-use lib.Dec.{ltb}
-use borrow.Author.Tests.{ltb-false, le-ltb}
-use Rattle.octets.specs.Choice.{by-pick}
-use Rattle.book.specs.Table.{everySecond, pairOf}
+use lib.Dec.{leb}
+use borrow.Author.Tests.{leb-true, le-leb}
+use Rattle.octets.specs.Choice.{_and_, by-pick, and-left, and-right}
+use Rattle.book.specs.Table.{everySecond, goodPair, pairOf}
 use Rattle.book.specs.declared.table.Table.{Table}
 use Rattle.book.specs.declared.table.Table.the-variants.{Total, Refused}
 
@@ -19,6 +20,21 @@ pub record GoodPair (least x n : ℕ) : Type 0 where
   pub some : 1 ≤ n
   pub most : n ≤ 200
 
+pub good-pair : (least x n : ℕ) → goodPair least x n ≡ true → GoodPair least x n
+unfolding goodPair
+good-pair least x n e =
+    let b : Bool = leb x 15 in
+    let c : Bool = leb 1 n in
+    let d : Bool = leb n 200 in
+    let e2 = and-right (leb least x) (b and c and d) e in
+    let e3 = and-right b (c and d) e2 in
+    record {
+      rises = leb-true least x (and-left (leb least x) (b and c and d) e);
+      slot = leb-true x 15 (and-left b (c and d) e2);
+      some = leb-true 1 n (and-left c d e3);
+      most = leb-true n 200 (and-right c d e3);
+    }
+
 module _ (least total x n : ℕ) where
   abbrev GoodIf : Table → Type 0
   GoodIf (Total t) = GoodPair least x n × (t ≡ total + n)
@@ -26,19 +42,14 @@ module _ (least total x n : ℕ) where
 
   judged : GoodIf (pairOf least total x n)
   unfolding pairOf
-  judged =
-      by-pick GoodIf (ltb x least) (λ _. tt)
-      (λ a. by-pick GoodIf (ltb 15 x) (λ _. tt)
-      (λ b. by-pick GoodIf (ltb n 1) (λ _. tt)
-      (λ c. by-pick GoodIf (ltb 200 n) (λ _. tt)
-      (λ d. (record { rises = ltb-false x least a; slot = ltb-false 15 x b; some = ltb-false n 1 c; most = ltb-false 200 n d }, refl)))))
+  judged = by-pick GoodIf (goodPair least x n) (λ e. (good-pair least x n e, refl)) (λ _. tt)
 
   pub good : {t : ℕ} → pairOf least total x n ≡ Total t → GoodPair least x n × (t ≡ total + n)
   good e = subst GoodIf e judged
 
   pub taken : GoodPair least x n → pairOf least total x n ≡ Total (total + n)
-  unfolding pairOf
-  taken g = simp (le-ltb _ _ (g .rises), le-ltb _ _ (g .slot), le-ltb _ _ (g .some), le-ltb _ _ (g .most))
+  unfolding pairOf goodPair
+  taken g = simp (le-leb _ _ (g .rises), le-leb _ _ (g .slot), le-leb _ _ (g .some), le-leb _ _ (g .most))
 
 -- ---- every second byte
 
