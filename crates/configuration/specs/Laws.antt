@@ -5,13 +5,13 @@ use mathlib.Core.List.{List, _++_}
 use Prim.Native.Nat.{ℕ, _+_, _≤_, _<_}
 use native.Mathlib.Omega.{arith}
 use native.Mathlib.Nat.{zero-add}
-use lib.ListN.{length, getD, take}
+use lib.ListN.{length, getD, take, drop}
 use Rattle.octets.specs.Choice.{never}
 use Rattle.octets.specs.Bytes.{Bytes}
 use Rattle.octets.specs.declared.Refusal.{Refusal}
 use Rattle.octets.specs.Front.{fine}
 use Rattle.octets.specs.Fixed.{fault-fine}
-use Rattle.configuration.specs.Walk.{Walk, end, bad, more, nextOf, walkOf}
+use Rattle.configuration.specs.Walk.{Walk, end, bad, more, firstPosition, nextOf, walkOf}
 use Rattle.configuration.specs.Reading.{inputOf, outputOf, totalsOf, readOf, offsetsOf, listBy, inputOffsets, outputOffsets}
 use Rattle.configuration.specs.Writing.{moduleVerdict, moduleBytes, verdictIn, verdictOf}
 use Rattle.configuration.specs.Contents.{Reads, Again, Says, accepted, endsWell, walkBytes, walkVerdict, Whole, inputLengths, outputLengths, sumOf}
@@ -45,6 +45,10 @@ writes-back = again
 -- same end and the same refusal.
 pub step-by-step : (s : List ℕ) (at : ℕ) → Says s at (nextOf s at)
 step-by-step = says
+
+-- From the first position on, these are all modules.
+pub from-the-front : (s : List ℕ) → walkOf (drop (firstPosition .at) s) 0 ≡ walkOf s 0
+from-the-front s = refl
 
 -- (a) Modules that may be written, one after the other, read back as the same modules.
 pub modules-read-back : (w : Walk) → walkVerdict w ≡ fine → walkOf (walkBytes w) 0 ≡ w

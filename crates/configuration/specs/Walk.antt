@@ -27,11 +27,15 @@ faulty k = unfit (record { number = k })
 abbrev pub frontOf : (x : ℕ) → ℕ
 frontOf x = 1 + x / 128 % 2 + x / 64 % 2
 
+-- the vendor count that is refused
+abbrev pub barred : ℕ
+barred = 15
+
 -- the special format, of which `left` bytes are there: output's length byte y comes first, then input's z, then as many
 -- vendor bytes as the low nibble
 abbrev pub specialBy : (x left y z : ℕ) → Found
 specialBy x left y z =
-    pick (eqb (x % 16) 15) (faulty 26)
+    pick (eqb (x % 16) barred) (faulty 26)
     (pick (ltb left (frontOf x + x % 16)) (faulty 24) (one (specialOf x y z) (frontOf x) (x % 16)))
 
 unfoldable pub specialIn : List ℕ → Found

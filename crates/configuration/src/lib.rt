@@ -1,5 +1,6 @@
-// PROFIBUS DP configuration data (document 01, "Configuration"): its modules, a walk over them, and the
-// definitions and laws of both ways; the crate configuration_reader reads it whole, and configuration_writer writes.
+// PROFIBUS DP configuration data (document 01, "Configuration"): its modules, and the definitions and laws of both
+// ways. The crate configuration_walk goes over the modules, configuration_reader reads it whole, and
+// configuration_writer writes.
 mod fields;
 mod reading;
 mod walk;
@@ -11,5 +12,3 @@ pub use fields::side_length;
 pub use reading::Reading;
 pub use walk::Position;
 pub use walk::Step;
-pub use walk::first;
-pub use walk::next;

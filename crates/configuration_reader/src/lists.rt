@@ -8,8 +8,8 @@ use crate::reading::read;
 use configuration::Position;
 use configuration::Reading;
 use configuration::Step;
-use configuration::next;
 use configuration::side_length;
+use configuration_walk::next;
 use octets::Refusal;
 
 // The second pass, over what the first has accepted: it can refuse nothing, and stores.

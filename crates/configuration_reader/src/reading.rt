@@ -7,8 +7,8 @@ ghost use Rattle.configuration.specs.Reading.{totalsOf, readOf};
 use configuration::Position;
 use configuration::Reading;
 use configuration::Step;
-use configuration::next;
 use configuration::side_length;
+use configuration_walk::next;
 use octets::Refusal;
 
 // Walks over all modules; the bound keeps the sums small.

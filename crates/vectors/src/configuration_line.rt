@@ -57,10 +57,10 @@ fn modules_end(step: configuration::Step) {
 // Each module, and the bytes that writing makes of it again. No data has as many modules as the turns
 // that are counted down.
 fn modules(bytes: &[u8], out: &mut [u8]) {
-    let mut position = configuration::first();
+    let mut position = configuration_walk::first();
     let mut turns: usize = 4097;
     while 0 < turns {
-        let step = configuration::next(bytes, position);
+        let step = configuration_walk::next(bytes, position);
         let configuration::Step::Module {
             module: found,
             start,

@@ -14,7 +14,7 @@ use Rattle.octets.specs.Elements.{part-elements}
 use Rattle.octets.specs.Part.{partOf}
 use Rattle.octets.specs.Front.{fine}
 use Rattle.configuration.specs.Fields.{sideOf, generalOf, lengthByte, specialOf}
-use Rattle.configuration.specs.Walk.{Found, one, unfit, frontOf, specialIn, moduleIn}
+use Rattle.configuration.specs.Walk.{Found, one, unfit, frontOf, barred, specialIn, moduleIn}
 use Rattle.configuration.specs.Writing.{bit, presence, sideByte, goodSide, goodGeneral, generalByte, generalVerdict, sideBytes, specialBytes, specialVerdict, moduleVerdict, moduleBytes}
 use Rattle.configuration.specs.Lemmas.Sides.{Units, good-units}
 use Rattle.configuration.specs.declared.fields.Side.{Side}
@@ -145,7 +145,7 @@ module _ (r : List ℕ) (some : 1 ≤ length r) (bytes : Bytes r) where
       }
 
   -- the special format
-  module _ (special : x / 16 % 4 ≡ 0) (ne : x % 16 ≡ 15 → ⊥) (fits : frontOf x + x % 16 ≤ length r) where
+  module _ (special : x / 16 % 4 ≡ 0) (ne : x % 16 ≡ barred → ⊥) (fits : frontOf x + x % 16 ≤ length r) where
     abbrev p : ℕ
     p = x / 128 % 2
 
@@ -204,9 +204,9 @@ module _ (r : List ℕ) (some : 1 ≤ length r) (bytes : Bytes r) where
   unfolding moduleIn specialIn
   again =
       by-pick (AgainIf r) (eqb (x / 16 % 4) 0)
-      (λ s. by-pick (AgainIf r) (eqb (x % 16) 15) (λ _. tt)
+      (λ s. by-pick (AgainIf r) (eqb (x % 16) barred) (λ _. tt)
       (λ v. by-pick (AgainIf r) (ltb (length r) (frontOf x + x % 16)) (λ _. tt)
-      (λ f. special-here (eqb-true (x / 16 % 4) 0 s) (eqb-false (x % 16) 15 v) (ltb-false (length r) (frontOf x + x % 16) f))))
+      (λ f. special-here (eqb-true (x / 16 % 4) 0 s) (eqb-false (x % 16) barred v) (ltb-false (length r) (frontOf x + x % 16) f))))
       (λ s. general-here (eqb-false (x / 16 % 4) 0 s))
 
 -- what stands at the front of bytes, written again, is these bytes

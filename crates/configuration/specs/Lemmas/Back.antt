@@ -11,7 +11,7 @@ use Rattle.octets.specs.Choice.{pick, _and_, and-left, and-right, never}
 use Rattle.octets.specs.Front.{fine, fault}
 use Rattle.octets.specs.Fixed.{passed}
 use Rattle.configuration.specs.Fields.{sideOf, generalOf, lengthByte, specialOf}
-use Rattle.configuration.specs.Walk.{one, specialIn, moduleIn}
+use Rattle.configuration.specs.Walk.{one, barred, specialIn, moduleIn}
 use Rattle.configuration.specs.Writing.{bit, presence, sideByte, goodUnits, goodSide, goodGeneral, generalByte, generalVerdict, sideBytes, specialByte, specialBytes, specialVerdict, verdictBy, bytesBy, vendorBy}
 use Rattle.configuration.specs.Lemmas.Sides.{bit-small, present-small, Units, units, side-bytes-length}
 use Rattle.configuration.specs.declared.fields.Side.{Side}
@@ -135,7 +135,7 @@ module _ (i o : Side) (vendor rest : List ℕ) (go : goodSide 64 o ≡ true) (gi
   unfolding moduleIn specialIn specialOf
   special-in =
       let b = bits x (presence o) (presence i) (length vendor) refl (present-small o) (present-small i) small in
-      let ne : length vendor ≡ 15 → ⊥ = λ e. omega (arith, small) in
+      let ne : length vendor ≡ barred → ⊥ = λ e. omega (arith, small) in
       simp (b .special, b .count, b .output, b .input, ne-eqb _ _ ne, le-ltb _ _ long)
       (ap₂ (λ (input output : Side). one (record { identifier = Special; input = input; output = output }) (1 + presence o + presence i) (length vendor))
       (length-back i _ gi (at-input o i x (vendor ++ rest)))

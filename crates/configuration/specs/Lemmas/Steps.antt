@@ -11,7 +11,7 @@ use Rattle.octets.specs.Choice.{by-pick}
 use Rattle.octets.specs.Part.{partOf}
 use Rattle.octets.specs.declared.Refusal.{Refusal}
 use Rattle.configuration.specs.Fields.{sideIf, generalOf, specialOf, lengthOf}
-use Rattle.configuration.specs.Walk.{Found, one, unfit, frontOf, specialIn, moduleIn, stepOf, nextOf, end, bad, more, after, walkOf}
+use Rattle.configuration.specs.Walk.{Found, one, unfit, frontOf, barred, specialIn, moduleIn, stepOf, nextOf, end, bad, more, after, walkOf}
 use Rattle.configuration.specs.Reading.{inputOf, outputOf}
 use Rattle.configuration.specs.Contents.{Stands, Says}
 use Rattle.configuration.specs.declared.fields.Module.{Module}
@@ -44,7 +44,7 @@ sized r some =
     let y : ℕ = getD r 1 0 in
     let z : ℕ = getD r (1 + x / 128 % 2) 0 in
     by-pick (SizedIf (length r)) (eqb (x / 16 % 4) 0)
-    (λ _. by-pick (SizedIf (length r)) (eqb (x % 16) 15) (λ _. tt)
+    (λ _. by-pick (SizedIf (length r)) (eqb (x % 16) barred) (λ _. tt)
     (λ _. by-pick (SizedIf (length r)) (ltb (length r) (frontOf x + x % 16)) (λ _. tt)
     (λ h.
     record {

@@ -1,7 +1,7 @@
--- `configuration::walk::side_if` meets its contract. The definition has the same test.
+-- `configuration_walk::side_if` meets its contract. The definition has the same test.
 use borrow.Author.Tests.{eq-eqb, ne-eqb}
-use Rattle.configuration.proofs.walk.side_if.Statement.{statement}
-use Rattle.configuration.proofs.walk.side_if.Tie as tie
+use Rattle.configuration_walk.proofs.side_if.Statement.{statement}
+use Rattle.configuration_walk.proofs.side_if.Tie as tie
 
 returns : tie.Need-returns
 returns c = simp (eq-eqb _ _ (c .if1 .taken))

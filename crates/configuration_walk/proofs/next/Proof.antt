@@ -1,12 +1,12 @@
--- `configuration::walk::next` meets its contract. The definition has the same tests in the same order.
+-- `configuration_walk::next` meets its contract. The definition has the same tests in the same order.
 use mathlib.Core.Path.{sym, ap, _∙_}
 use native.Mathlib.Nat.{add-zero}
 use borrow.Author.Tests.{lt-ltb, le-ltb, eq-eqb, ne-eqb}
 use borrow.Author.Needs.{needs}
 use Rattle.configuration.specs.Walk.{stepOf, nextOf}
-use Rattle.configuration.proofs.Places.{is-special, is-general}
-use Rattle.configuration.proofs.walk.next.Statement.{statement}
-use Rattle.configuration.proofs.walk.next.Tie as tie
+use Rattle.configuration_walk.proofs.Places.{is-special, is-general}
+use Rattle.configuration_walk.proofs.next.Statement.{statement}
+use Rattle.configuration_walk.proofs.next.Tie as tie
 
 returns : tie.Need-returns
 unfolding nextOf

@@ -1,8 +1,8 @@
--- `configuration::walk::length_byte` meets its contract. Where the bit is 0 there is no byte to look at.
+-- `configuration_walk::length_byte` meets its contract. Where the bit is 0 there is no byte to look at.
 
 use borrow.Author.Needs.{needs}
-use Rattle.configuration.proofs.walk.length_byte.Statement.{statement}
-use Rattle.configuration.proofs.walk.length_byte.Tie as tie
+use Rattle.configuration_walk.proofs.length_byte.Statement.{statement}
+use Rattle.configuration_walk.proofs.length_byte.Tie as tie
 
 returns : tie.Need-returns
 returns c = simp (c .if1 .taken)

@@ -1,8 +1,8 @@
--- `configuration::walk::general` meets its contract, by what it calls for each side.
+-- `configuration_walk::general` meets its contract, by what it calls for each side.
 use borrow.Author.Needs.{needs}
 use Rattle.configuration.specs.Fields.{generalOf}
-use Rattle.configuration.proofs.walk.general.Statement.{statement}
-use Rattle.configuration.proofs.walk.general.Tie as tie
+use Rattle.configuration_walk.proofs.general.Statement.{statement}
+use Rattle.configuration_walk.proofs.general.Tie as tie
 
 add-units : tie.Need-add-units
 add-units c = search needs

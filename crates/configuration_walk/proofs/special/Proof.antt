@@ -1,10 +1,10 @@
--- `configuration::walk::special` meets its contract. The definition has the same tests, by the bytes from the place on.
+-- `configuration_walk::special` meets its contract. The definition has the same tests, by the bytes from the place on.
 use borrow.Author.Tests.{lt-ltb, le-ltb, eq-eqb, ne-eqb}
 use borrow.Author.Needs.{needs}
 use Rattle.configuration.specs.Fields.{specialOf}
-use Rattle.configuration.proofs.Places.{special-at}
-use Rattle.configuration.proofs.walk.special.Statement.{statement}
-use Rattle.configuration.proofs.walk.special.Tie as tie
+use Rattle.configuration_walk.proofs.Places.{special-at}
+use Rattle.configuration_walk.proofs.special.Statement.{statement}
+use Rattle.configuration_walk.proofs.special.Tie as tie
 
 shared-slice-read-x : tie.Need-shared-slice-read-x
 shared-slice-read-x c = search needs
