@@ -12,13 +12,13 @@ use Rattle.acyclic.specs.declared.answers.AnswerReading.{AnswerReading}
 use Rattle.acyclic.specs.declared.answers.AnswerReading.the-variants as answer-reading
 use Rattle.acyclic.specs.declared.calls.CallReading.{CallReading}
 use Rattle.acyclic.specs.declared.calls.CallReading.the-variants as call-reading
+use Rattle.address_change.specs.Address as address
+use Rattle.address_change.specs.declared.AddressReading.{AddressReading}
+use Rattle.address_change.specs.declared.AddressReading.the-variants as address-reading
 use Rattle.configuration.specs.Reading as configuration
 use Rattle.configuration.specs.declared.reading.Reading as configuration-type
 use Rattle.configuration.specs.declared.reading.Reading.the-variants as configuration-reading
-use Rattle.control.specs.Address as address
 use Rattle.control.specs.Command as command
-use Rattle.control.specs.declared.address.AddressReading.{AddressReading}
-use Rattle.control.specs.declared.address.AddressReading.the-variants as address-reading
 use Rattle.control.specs.declared.command.CommandReading.{CommandReading}
 use Rattle.control.specs.declared.command.CommandReading.the-variants as command-reading
 use Rattle.diagnosis.specs.Reading as diagnosis

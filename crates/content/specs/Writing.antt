@@ -8,8 +8,8 @@ use Rattle.octets.specs.Choice.{pick}
 use Rattle.octets.specs.Front.{Verdict, fine, fault}
 use Rattle.acyclic.specs.Answers as answers
 use Rattle.acyclic.specs.Calls as calls
+use Rattle.address_change.specs.Address as address
 use Rattle.configuration.specs.Writing as configuration
-use Rattle.control.specs.Address as address
 use Rattle.control.specs.Command as command
 use Rattle.diagnosis.specs.Writing as diagnosis
 use Rattle.parameters.specs.Writing as parameters

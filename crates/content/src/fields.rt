@@ -1,7 +1,7 @@
 // What a service's user data hold.
 use acyclic::Answer;
 use acyclic::Call;
-use control::AddressChange;
+use address_change::AddressChange;
 use control::GlobalCommand;
 use diagnosis::Header;
 use parameters::Parameters;

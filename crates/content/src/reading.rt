@@ -7,7 +7,7 @@ use access::Answering;
 use access::Service;
 use acyclic::AnswerReading;
 use acyclic::CallReading;
-use control::AddressReading;
+use address_change::AddressReading;
 use control::CommandReading;
 use octets::Mode;
 use octets::Refusal;
@@ -55,7 +55,7 @@ fn read_empty(content: Content, user: &[u8]) -> UserData
 fn read_address(user: &[u8]) -> UserData
     ensures { λ r. ⌜ r ≡ addressOf (now (user .entry)) ⌝ }
 {
-    let reading = control::read_address_change(user);
+    let reading = address_change::read_address_change(user);
     match reading {
         AddressReading::Change { fields, start, len } => UserData::Is {
             content: Content::SetSlaveAdr(fields),

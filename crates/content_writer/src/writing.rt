@@ -31,7 +31,7 @@ pub fn write_call(content: Content, part: &[u8], out: &mut [u8]) -> Written
         Content::Dpv1Call(call) => acyclic_writer::write_call(call, part, out),
         Content::Dpv1Answer(_) => Written::Refused(10),
         Content::ExtUserPrm => write_at_most(244, part, out),
-        Content::SetSlaveAdr(fields) => control::write_address_change(fields, part, out),
+        Content::SetSlaveAdr(fields) => address_change::write_address_change(fields, part, out),
         Content::RdInp => write_at_most(0, part, out),
         Content::RdOutp => write_at_most(0, part, out),
         Content::GlobalControl(fields) => control::write_global_command(fields, part, out),

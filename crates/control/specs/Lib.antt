@@ -1,4 +1,3 @@
-pub mod Address
 pub mod Command
 pub mod Lemmas
 pub mod Laws

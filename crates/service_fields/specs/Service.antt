@@ -11,9 +11,9 @@ use Rattle.octets.specs.Number.{numberOf}
 use Rattle.function_code.specs.Code.{classOf}
 use Rattle.function_code.specs.declared.code.Class.{Class}
 use Rattle.function_code.specs.declared.code.Class.the-variants as class
-use Rattle.control.specs.Address as address
+use Rattle.address_change.specs.Address as address
+use Rattle.address_change.specs.declared.AddressChange.{AddressChange}
 use Rattle.control.specs.Command as command
-use Rattle.control.specs.declared.address.AddressChange.{AddressChange}
 use Rattle.control.specs.declared.command.GlobalCommand.{GlobalCommand}
 use Rattle.diagnosis.specs.Writing as diagnosis
 use Rattle.diagnosis.specs.declared.reading.Header as diagnosis-type

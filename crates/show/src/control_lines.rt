@@ -4,7 +4,7 @@ use crate::field_lines::group_line;
 use crate::field_lines::ident_line;
 use crate::field_lines::number_line;
 use crate::text::text;
-use control::AddressChange;
+use address_change::AddressChange;
 use control::GlobalCommand;
 
 fn lock_line(locked: bool) {

@@ -10,23 +10,23 @@ use crate::text::place;
 use crate::text::text;
 use crate::text::word_field;
 
-pub(crate) fn change_words(change: control::AddressChange) {
+pub(crate) fn change_words(change: address_change::AddressChange) {
     byte_field(change.address);
     word_field(change.ident);
     flag_field(change.locked);
 }
 
 pub(crate) fn address_line(bytes: &[u8], out: &mut [u8]) {
-    match control::read_address_change(bytes) {
-        control::AddressReading::Refused(refusal) => {
+    match address_change::read_address_change(bytes) {
+        address_change::AddressReading::Refused(refusal) => {
             refused(refusal);
             text(b"\n");
         }
-        control::AddressReading::Change { fields, start, len } => {
+        address_change::AddressReading::Change { fields, start, len } => {
             text(b"0");
             change_words(fields);
             place(start, len);
-            let written = control::write_address_change(
+            let written = address_change::write_address_change(
                 fields,
                 octets::part(bytes, start, len),
                 out,
@@ -73,12 +73,12 @@ pub(crate) fn address_fields(fields: &[u8], out: &mut [u8]) {
         malformed();
         return;
     }
-    let change = control::AddressChange {
+    let change = address_change::AddressChange {
         address: fields[0],
         ident: octets::join16(fields[1], fields[2]),
         locked: fields[3] == 1,
     };
-    let written = control::write_address_change(change, behind(fields, 4), out);
+    let written = address_change::write_address_change(change, behind(fields, 4), out);
     stored(written, out);
 }
 

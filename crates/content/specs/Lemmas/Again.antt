@@ -22,17 +22,18 @@ use Rattle.acyclic.specs.declared.answers.AnswerReading.{AnswerReading}
 use Rattle.acyclic.specs.declared.answers.AnswerReading.the-variants as answer-reading
 use Rattle.acyclic.specs.declared.calls.CallReading.{CallReading}
 use Rattle.acyclic.specs.declared.calls.CallReading.the-variants as call-reading
+use Rattle.address_change.specs.Address.{verdictOf as addressVerdict, fieldsIn as addressFields, readOf as readAddress}
+use Rattle.address_change.specs.Laws.{address-writes-back}
+use Rattle.address_change.specs.declared.AddressReading.{AddressReading}
+use Rattle.address_change.specs.declared.AddressReading.the-variants as address-reading
 use Rattle.configuration.specs.Contents.{accepted}
 use Rattle.configuration.specs.Laws.{configuration-writes-back}
 use Rattle.configuration.specs.Reading.{readOf as readConfiguration}
 use Rattle.configuration.specs.Writing.{verdictOf as configurationVerdict}
 use Rattle.configuration.specs.declared.reading.Reading as configuration-type
 use Rattle.configuration.specs.declared.reading.Reading.the-variants as configuration-reading
-use Rattle.control.specs.Address.{verdictOf as addressVerdict, fieldsIn as addressFields, readOf as readAddress}
 use Rattle.control.specs.Command.{verdictOf as commandVerdict, fieldsIn as commandFields, readOf as readCommand}
-use Rattle.control.specs.Laws.{address-writes-back, command-writes-back}
-use Rattle.control.specs.declared.address.AddressReading.{AddressReading}
-use Rattle.control.specs.declared.address.AddressReading.the-variants as address-reading
+use Rattle.control.specs.Laws.{command-writes-back}
 use Rattle.control.specs.declared.command.CommandReading.{CommandReading}
 use Rattle.control.specs.declared.command.CommandReading.the-variants as command-reading
 use Rattle.diagnosis.specs.Contents as contents

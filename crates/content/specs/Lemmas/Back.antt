@@ -13,12 +13,13 @@ use Rattle.octets.specs.Front.{fine}
 use Rattle.octets.specs.Fixed.{passed, fault-fine}
 use Rattle.octets.specs.declared.Mode.{Mode}
 use Rattle.acyclic.specs.Laws.{call-reads-back, answer-reads-back}
+use Rattle.address_change.specs.Laws.{address-reads-back}
 use Rattle.configuration.specs.Contents.{accepted}
 use Rattle.configuration.specs.Laws.{configuration-reads-back}
 use Rattle.configuration.specs.Reading as configuration
 use Rattle.configuration.specs.declared.reading.Reading as configuration-type
 use Rattle.configuration.specs.declared.reading.Reading.the-variants as configuration-reading
-use Rattle.control.specs.Laws.{address-reads-back, command-reads-back}
+use Rattle.control.specs.Laws.{command-reads-back}
 use Rattle.diagnosis.specs.Contents as diagnosis-contents
 use Rattle.diagnosis.specs.Contents.{contentsIn, verdictFor}
 use Rattle.diagnosis.specs.Laws.{reads-back}

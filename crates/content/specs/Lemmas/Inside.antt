@@ -18,12 +18,12 @@ use Rattle.acyclic.specs.declared.answers.AnswerReading.{AnswerReading}
 use Rattle.acyclic.specs.declared.answers.AnswerReading.the-variants as answer-reading
 use Rattle.acyclic.specs.declared.calls.CallReading.{CallReading}
 use Rattle.acyclic.specs.declared.calls.CallReading.the-variants as call-reading
+use Rattle.address_change.specs.Address.{verdictOf as addressVerdict, fieldsIn as addressFields, readOf as readAddress}
+use Rattle.address_change.specs.declared.AddressReading.{AddressReading}
 use Rattle.configuration.specs.Reading.{readOf as readConfiguration}
 use Rattle.configuration.specs.declared.reading.Reading as configuration-type
 use Rattle.configuration.specs.declared.reading.Reading.the-variants as configuration-reading
-use Rattle.control.specs.Address.{verdictOf as addressVerdict, fieldsIn as addressFields, readOf as readAddress}
 use Rattle.control.specs.Command.{goodCommand, verdictOf as commandVerdict, fieldsIn as commandFields, readOf as readCommand}
-use Rattle.control.specs.declared.address.AddressReading.{AddressReading}
 use Rattle.control.specs.declared.command.CommandReading.{CommandReading}
 use Rattle.diagnosis.specs.Reading.{readOf as readDiagnosis}
 use Rattle.diagnosis.specs.Laws.{read-is-tiled}

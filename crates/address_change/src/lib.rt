@@ -1,9 +1,9 @@
-// Set_Slave_Adr: the change of a slave's address.
+// Set_Slave_Adr (document 01, "Services by access point"): the change of a slave's address.
 ghost use mathlib.Core.Path.{_≡_};
 ghost use Prim.Native.Nat.{_≤_};
 ghost use lib.ListN.{length};
 ghost use Rattle.octets.specs.Front.{AtFront, answerBy, heldBy};
-ghost use Rattle.control.specs.Address.{readOf, fixedBytes, bytesFor, verdictFor};
+ghost use Rattle.address_change.specs.Address.{readOf, fixedBytes, bytesFor, verdictFor};
 use octets::Refusal;
 use octets::Written;
 

@@ -1,9 +1,9 @@
--- `control::address::read_address_change` meets its contract. The definition has the same tests in the same order.
+-- `address_change::read_address_change` meets its contract. The definition has the same tests in the same order.
 use borrow.Author.Tests.{lt-ltb, le-ltb, eq-eqb, ne-eqb}
 use borrow.Author.Needs.{needs}
-use Rattle.control.specs.Address.{verdictOf, readOf}
-use Rattle.control.proofs.address.read_address_change.Statement.{statement}
-use Rattle.control.proofs.address.read_address_change.Tie as tie
+use Rattle.address_change.specs.Address.{verdictOf, readOf}
+use Rattle.address_change.proofs.read_address_change.Statement.{statement}
+use Rattle.address_change.proofs.read_address_change.Tie as tie
 
 returns : tie.Need-returns
 unfolding verdictOf readOf

@@ -14,10 +14,10 @@ use Rattle.octets.specs.Number.{number-bytes}
 use Rattle.octets.specs.Part.{partOf}
 use Rattle.octets.specs.Front.{fine, fault}
 use Rattle.octets.specs.Fixed.{judged, by-verdict, passed, number-again, part-long, part-tiles}
-use Rattle.control.specs.Address.{verdictOf, refused, fieldsIn, readOf, fixedBytes, bytesFor, verdictFor}
-use Rattle.control.specs.declared.address.AddressChange.{AddressChange}
-use Rattle.control.specs.declared.address.AddressReading.{AddressReading}
-use Rattle.control.specs.declared.address.AddressReading.the-variants.{Change, Refused}
+use Rattle.address_change.specs.Address.{verdictOf, refused, fieldsIn, readOf, fixedBytes, bytesFor, verdictFor}
+use Rattle.address_change.specs.declared.AddressChange.{AddressChange}
+use Rattle.address_change.specs.declared.AddressReading.{AddressReading}
+use Rattle.address_change.specs.declared.AddressReading.the-variants.{Change, Refused}
 
 -- ---- the last byte
 

@@ -8,9 +8,9 @@ use Rattle.octets.specs.Choice.{pick}
 use Rattle.octets.specs.Number.{numberOf, bytesOf}
 use Rattle.octets.specs.Front.{Verdict, fine, fault}
 use Rattle.octets.specs.Fixed.{judged}
-use Rattle.control.specs.declared.address.AddressChange.{AddressChange}
-use Rattle.control.specs.declared.address.AddressReading.{AddressReading}
-use Rattle.control.specs.declared.address.AddressReading.the-variants.{Change, Refused}
+use Rattle.address_change.specs.declared.AddressChange.{AddressChange}
+use Rattle.address_change.specs.declared.AddressReading.{AddressReading}
+use Rattle.address_change.specs.declared.AddressReading.the-variants.{Change, Refused}
 
 -- the verdict on the fields, at so many bytes in all, which reader and writer share: the length, then the address
 unfoldable pub verdictOf : AddressChange → (size : ℕ) → Verdict

@@ -1,4 +1,4 @@
--- `control::address::write_address_change` meets its contract. The tests are the verdict, and 4 and the rest's length are all bytes.
+-- `address_change::write_address_change` meets its contract. The tests are the verdict, and 4 and the rest's length are all bytes.
 use mathlib.Core.Path.{_≡_}
 use mathlib.Core.List.{List}
 use Prim.Native.Nat.{ℕ}
@@ -7,9 +7,9 @@ use denote.Ref.{now}
 use borrow.Author.Needs.{needs}
 use borrow.Author.Tests.{lt-ltb, le-ltb, eq-eqb, ne-eqb}
 use Rattle.octets.specs.Front.{fine, refused, both-too-small, both-written}
-use Rattle.control.specs.Address.{verdictOf, fixedBytes, bytesFor, verdictFor}
-use Rattle.control.proofs.address.write_address_change.Statement.{statement}
-use Rattle.control.proofs.address.write_address_change.Tie as tie
+use Rattle.address_change.specs.Address.{verdictOf, fixedBytes, bytesFor, verdictFor}
+use Rattle.address_change.proofs.write_address_change.Statement.{statement}
+use Rattle.address_change.proofs.write_address_change.Tie as tie
 
 -- the bytes to be written
 abbrev bytesAt : tie.Start → List ℕ

@@ -1,4 +1,4 @@
--- `control::address::put` meets its contract. Four bytes are stored in turn.
+-- `address_change::put` meets its contract. Four bytes are stored in turn.
 use mathlib.Core.Path.{_≡_, refl}
 use mathlib.Core.Bool.{Bool, true, false}
 use native.Mathlib.Omega.{arith}
@@ -7,9 +7,9 @@ use lib.ListN.{length-set}
 use borrow.Author.Needs.{needs}
 use Rattle.octets.specs.Choice.{pick}
 use Rattle.octets.specs.Front.{stores}
-use Rattle.control.specs.Address.{fixedBytes}
-use Rattle.control.proofs.address.put.Statement.{statement}
-use Rattle.control.proofs.address.put.Tie as tie
+use Rattle.address_change.specs.Address.{fixedBytes}
+use Rattle.address_change.proofs.put.Statement.{statement}
+use Rattle.address_change.proofs.put.Tie as tie
 
 -- a bool as a byte
 as-byte : (b : Bool) → boolByte b ≡ pick b 1 0
