@@ -45,11 +45,11 @@ fn routed(format: Format, header: Header, at: usize, user: &[u8], mode: Mode) ->
     match route {
         Route::Nowhere => Reading::Refused(Refusal { number: 10 }),
         Route::Call(service) => {
-            let found = content::read_call(service, user, mode);
+            let found = content_reader::read_call(service, user, mode);
             placed(format, header, Way::Call, at, found)
         }
         Route::Answer(answering) => {
-            let found = content::read_answer(answering, user);
+            let found = content_reader::read_answer(answering, user);
             placed(format, header, Way::Answer, at, found)
         }
     }

@@ -25,7 +25,7 @@ fn fitting(format: Format, header: Header, content: Content, len: usize) -> bool
     if 246 < len {
         return false;
     }
-    framing::writable(format, header, content_writer::fixed_length(content) + len)
+    framing::writable(format, header, content::fixed_length(content) + len)
 }
 
 // Writes the user data at the front of out.
@@ -64,7 +64,7 @@ fn write_way(
     ensures bytes { λ _. ⌜ now (out .exit) ≡ heldBy (wayVerdict way content (now (part .entry))) (telegramOf format header (bytesFor content (now (part .entry)))) (now (out .entry)) ⌝ }
 {
     let start = framing::user_start(format, header);
-    let len = content_writer::fixed_length(content) + part.len();
+    let len = content::fixed_length(content) + part.len();
     let room = out.len();
     if room < start + len + 2 {
         return no_room(write_data(way, content, part, &mut out[room..]));
@@ -90,7 +90,7 @@ pub fn write(
     ensures answer { λ r. ⌜ r ≡ answerBy (verdictOf format da sa fc content (now (part .entry))) (telegramFor format da sa fc content (now (part .entry))) (length (now (out .entry))) ⌝ }
     ensures bytes { λ _. ⌜ now (out .exit) ≡ heldBy (verdictOf format da sa fc content (now (part .entry))) (telegramFor format da sa fc content (now (part .entry))) (now (out .entry)) ⌝ }
 {
-    let header = access::header_of(content_writer::service_of(content), da, sa, fc);
+    let header = access::header_of(content::service_of(content), da, sa, fc);
     if !fitting(format, header, content, part.len()) {
         return Written::Refused(12);
     }

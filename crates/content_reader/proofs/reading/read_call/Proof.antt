@@ -1,8 +1,8 @@
--- `content::reading::read_call` meets its contract: each service has its reader.
+-- `content_reader::reading::read_call` meets its contract: each service has its reader.
 use Rattle.content.specs.Reading.{callOf}
 use borrow.Author.Needs.{needs}
-use Rattle.content.proofs.reading.read_call.Statement.{statement}
-use Rattle.content.proofs.reading.read_call.Tie as tie
+use Rattle.content_reader.proofs.reading.read_call.Statement.{statement}
+use Rattle.content_reader.proofs.reading.read_call.Tie as tie
 
 enum-told : tie.Need-enum-told
 enum-told c = search needs

@@ -1,8 +1,8 @@
--- `content::reading::read_command` meets its contract: as the reading of the format says.
+-- `content_reader::reading::read_command` meets its contract: as the reading of the format says.
 use mathlib.Core.Path.{sym, _∙_}
 use borrow.Author.Needs.{needs}
-use Rattle.content.proofs.reading.read_command.Statement.{statement}
-use Rattle.content.proofs.reading.read_command.Tie as tie
+use Rattle.content_reader.proofs.reading.read_command.Statement.{statement}
+use Rattle.content_reader.proofs.reading.read_command.Tie as tie
 
 read-global-command-requires : tie.Need-read-global-command-requires
 read-global-command-requires c κs = search needs

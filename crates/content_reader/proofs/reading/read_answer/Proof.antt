@@ -1,8 +1,8 @@
--- `content::reading::read_answer` meets its contract: each service has its reader.
+-- `content_reader::reading::read_answer` meets its contract: each service has its reader.
 use Rattle.content.specs.Reading.{answerOf}
 use borrow.Author.Needs.{needs}
-use Rattle.content.proofs.reading.read_answer.Statement.{statement}
-use Rattle.content.proofs.reading.read_answer.Tie as tie
+use Rattle.content_reader.proofs.reading.read_answer.Statement.{statement}
+use Rattle.content_reader.proofs.reading.read_answer.Tie as tie
 
 enum-told : tie.Need-enum-told
 enum-told c = search needs

@@ -1,7 +1,7 @@
--- `content_writer::fields::fixed_length` meets its contract: each content has its length.
+-- `content::fields::fixed_length` meets its contract: each content has its length.
 use borrow.Author.Needs.{needs}
-use Rattle.content_writer.proofs.fields.fixed_length.Statement.{statement}
-use Rattle.content_writer.proofs.fields.fixed_length.Tie as tie
+use Rattle.content.proofs.fields.fixed_length.Statement.{statement}
+use Rattle.content.proofs.fields.fixed_length.Tie as tie
 
 enum-told : tie.Need-enum-told
 enum-told c = search needs

@@ -1,8 +1,8 @@
--- `content::reading::read_address` meets its contract: as the reading of the format says.
+-- `content_reader::reading::read_address` meets its contract: as the reading of the format says.
 use mathlib.Core.Path.{sym, _∙_}
 use borrow.Author.Needs.{needs}
-use Rattle.content.proofs.reading.read_address.Statement.{statement}
-use Rattle.content.proofs.reading.read_address.Tie as tie
+use Rattle.content_reader.proofs.reading.read_address.Statement.{statement}
+use Rattle.content_reader.proofs.reading.read_address.Tie as tie
 
 read-address-change-requires : tie.Need-read-address-change-requires
 read-address-change-requires c κs = search needs

@@ -1,8 +1,8 @@
--- `content::reading::read_dpv1_call` meets its contract: as the reading of the format says.
+-- `content_reader::reading::read_dpv1_call` meets its contract: as the reading of the format says.
 use mathlib.Core.Path.{sym, _∙_}
 use borrow.Author.Needs.{needs}
-use Rattle.content.proofs.reading.read_dpv1_call.Statement.{statement}
-use Rattle.content.proofs.reading.read_dpv1_call.Tie as tie
+use Rattle.content_reader.proofs.reading.read_dpv1_call.Statement.{statement}
+use Rattle.content_reader.proofs.reading.read_dpv1_call.Tie as tie
 
 read-call-requires : tie.Need-read-call-requires
 read-call-requires c κs = search needs

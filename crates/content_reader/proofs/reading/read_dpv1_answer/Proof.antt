@@ -1,8 +1,8 @@
--- `content::reading::read_dpv1_answer` meets its contract: as the reading of the format says.
+-- `content_reader::reading::read_dpv1_answer` meets its contract: as the reading of the format says.
 use mathlib.Core.Path.{sym, _∙_}
 use borrow.Author.Needs.{needs}
-use Rattle.content.proofs.reading.read_dpv1_answer.Statement.{statement}
-use Rattle.content.proofs.reading.read_dpv1_answer.Tie as tie
+use Rattle.content_reader.proofs.reading.read_dpv1_answer.Statement.{statement}
+use Rattle.content_reader.proofs.reading.read_dpv1_answer.Tie as tie
 
 read-answer-requires : tie.Need-read-answer-requires
 read-answer-requires c κs = search needs

@@ -1,8 +1,8 @@
--- `content::reading::read_empty` meets its contract: by the length alone.
+-- `content_reader::reading::read_empty` meets its contract: by the length alone.
 use Rattle.content.specs.Reading.{emptyOf}
 use borrow.Author.Tests.{lt-ltb, le-ltb}
-use Rattle.content.proofs.reading.read_empty.Statement.{statement}
-use Rattle.content.proofs.reading.read_empty.Tie as tie
+use Rattle.content_reader.proofs.reading.read_empty.Statement.{statement}
+use Rattle.content_reader.proofs.reading.read_empty.Tie as tie
 
 returns : tie.Need-returns
 unfolding emptyOf

@@ -1,11 +1,11 @@
--- `content::reading::read_diagnosis` meets its contract: as the reading of the format says; a diagnosis has six bytes.
+-- `content_reader::reading::read_diagnosis` meets its contract: as the reading of the format says; a diagnosis has six bytes.
 use Rattle.diagnosis.specs.Laws.{read-is-tiled}
 use denote.Ref.{now}
 use mathlib.Core.Path.{sym, _∙_}
 use native.Mathlib.Omega.{arith}
 use borrow.Author.Needs.{needs}
-use Rattle.content.proofs.reading.read_diagnosis.Statement.{statement}
-use Rattle.content.proofs.reading.read_diagnosis.Tie as tie
+use Rattle.content_reader.proofs.reading.read_diagnosis.Statement.{statement}
+use Rattle.content_reader.proofs.reading.read_diagnosis.Tie as tie
 
 read-requires : tie.Need-read-requires
 read-requires c κs = search needs
