@@ -5,4 +5,3 @@ pub mod Number
 pub mod Front
 pub mod Part
 pub mod Fixed
-pub mod Float

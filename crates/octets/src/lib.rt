@@ -1,18 +1,10 @@
 // What every format of the library shares: the answers of readers and writers, numbers high byte
-// first, floating-point numbers, storing at the front of a lent slice, and handing back a part of one.
+// first, storing at the front of a lent slice, and handing back a part of one.
 ghost use mathlib.Core.Path.{_≡_};
 ghost use mathlib.Core.List.{_∷_, []};
 ghost use Rattle.octets.specs.Number.{numberOf, bytesOf};
 ghost use Rattle.octets.specs.Front.{countOf, frontOf, countBehind, heldBehind};
 ghost use Rattle.octets.specs.Part.{partOf};
-
-mod float;
-
-pub use float::Floating;
-pub use float::Pattern;
-pub use float::floating_of;
-pub use float::is_nan_pattern;
-pub use float::pattern_of;
 
 // Why a reader refuses its bytes: a refusal number of document 01.
 pub struct Refusal {

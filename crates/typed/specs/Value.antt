@@ -7,9 +7,9 @@ use lib.Ieee.{binary32, fits, toBits}
 use mir.Syntax.{Width, w8, w16, w32}
 use mir.Val.{SFits, bytes, toZ, ofZ}
 use Rattle.octets.specs.Choice.{pick}
-use Rattle.octets.specs.Float.{floatingOf}
-use Rattle.octets.specs.declared.float.Floating.{Floating}
-use Rattle.octets.specs.declared.float.Floating.the-variants.{Number, Nan as NanBits}
+use Rattle.float.specs.Float.{floatingOf}
+use Rattle.float.specs.declared.Floating.{Floating}
+use Rattle.float.specs.declared.Floating.the-variants.{Number, Nan as NanBits}
 use Rattle.typed.specs.declared.value.Value.{Value}
 use Rattle.typed.specs.declared.value.Value.the-variants.{Boolean, I8, I16, I32, U8, U16, U32, Float, Nan}
 

@@ -5,9 +5,9 @@ use mathlib.Core.Bool.{not}
 use mathlib.Core.List.{List, _∷_}
 use lib.Ieee.{isNan}
 use Rattle.octets.specs.Choice.{pick}
-use Rattle.octets.specs.Float.{isNanPattern}
 use Rattle.octets.specs.Number.{bytesOf}
 use Rattle.octets.specs.Front.{Verdict, fine, fault}
+use Rattle.float.specs.Float.{isNanPattern}
 use Rattle.typed.specs.Value.{codeOf, widthOf, patternIn}
 use Rattle.typed.specs.declared.value.Value.{Value}
 use Rattle.typed.specs.declared.value.Value.the-variants.{Boolean, I8, I16, I32, U8, U16, U32, Float, Nan}

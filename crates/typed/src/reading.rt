@@ -9,7 +9,7 @@ use crate::signed::signed8;
 use crate::signed::signed16;
 use crate::signed::signed32;
 use crate::value::Value;
-use octets::Floating;
+use float::Floating;
 use octets::Refusal;
 
 // What bytes are.
@@ -76,7 +76,7 @@ fn long(bytes: &[u8]) -> u32
 fn float(pattern: u32) -> Value
     ensures { λ r. ⌜ r ≡ valueOf floating pattern ⌝ }
 {
-    let found = octets::floating_of(pattern);
+    let found = float::floating_of(pattern);
     match found {
         Floating::Number(number) => Value::Float(number),
         Floating::Nan(bits) => Value::Nan(bits),

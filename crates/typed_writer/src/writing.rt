@@ -9,7 +9,7 @@ ghost use Rattle.typed.specs.Writing.{verdictOf, bytesFor};
 use crate::signed::pattern8;
 use crate::signed::pattern16;
 use crate::signed::pattern32;
-use octets::Pattern;
+use float::Pattern;
 use octets::Written;
 use typed::Value;
 
@@ -62,7 +62,7 @@ fn write_float(number: f32, out: &mut [u8]) -> Written
     ensures answer { λ r. ⌜ r ≡ answerBy (verdictOf (Value.Float number)) (bytesFor (Value.Float number)) (length (now (out .entry))) ⌝ }
     ensures bytes { λ _. ⌜ now (out .exit) ≡ heldBy (verdictOf (Value.Float number)) (bytesFor (Value.Float number)) (now (out .entry)) ⌝ }
 {
-    let pattern = octets::pattern_of(number);
+    let pattern = float::pattern_of(number);
     match pattern {
         Pattern::Bits(bits) => write32(8, bits, out),
         Pattern::Unknown => Written::Refused(12),
@@ -74,7 +74,7 @@ fn write_nan(bits: u32, out: &mut [u8]) -> Written
     ensures answer { λ r. ⌜ r ≡ answerBy (verdictOf (Value.Nan bits)) (bytesFor (Value.Nan bits)) (length (now (out .entry))) ⌝ }
     ensures bytes { λ _. ⌜ now (out .exit) ≡ heldBy (verdictOf (Value.Nan bits)) (bytesFor (Value.Nan bits)) (now (out .entry)) ⌝ }
 {
-    if !octets::is_nan_pattern(bits) {
+    if !float::is_nan_pattern(bits) {
         return Written::Refused(12);
     }
     write32(8, bits, out)

@@ -9,8 +9,8 @@ use crate::text::field;
 use crate::text::flag_field;
 use crate::text::text;
 use crate::text::word_field;
-use octets::Floating;
-use octets::Pattern;
+use float::Floating;
+use float::Pattern;
 use typed::Reading;
 use typed::Value;
 
@@ -45,7 +45,7 @@ fn signed32_field(number: i32) {
 }
 
 fn float_field(number: f32) {
-    match octets::pattern_of(number) {
+    match float::pattern_of(number) {
         Pattern::Bits(bits) => field(bits as usize),
         Pattern::Unknown => text(b" unknown"),
     }
@@ -132,7 +132,7 @@ fn integer_fields(bytes: &[u8], out: &mut [u8]) {
 // A NaN can only be had as a result.
 fn float_fields(bits: u32, out: &mut [u8]) {
     let zero: f32 = 0.0;
-    match octets::floating_of(bits) {
+    match float::floating_of(bits) {
         Floating::Number(number) => written_value(Value::Float(number), out),
         Floating::Nan(_) => written_value(Value::Float(zero / zero), out),
     }

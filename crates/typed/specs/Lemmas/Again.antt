@@ -16,10 +16,10 @@ use borrow.Author.Tests.{eqb-true, eqb-false, leb-true, not-true, not-false}
 use Rattle.octets.specs.Choice.{pick, _or_, by-pick, and-left, and-right}
 use Rattle.octets.specs.Bytes.{Bytes}
 use Rattle.octets.specs.Elements.{rest-elements}
-use Rattle.octets.specs.Float.{isNanPattern, floatingOf, pattern-back, known}
 use Rattle.octets.specs.Number.{numberOf, bytesOf, bytes-number, number-small}
 use Rattle.octets.specs.Front.{fine}
-use Rattle.octets.specs.declared.float.Floating.{Floating}
+use Rattle.float.specs.Float.{isNanPattern, floatingOf, pattern-back, known}
+use Rattle.float.specs.declared.Floating.{Floating}
 use Rattle.typed.specs.Value.{Size, one, two, four, bitsOf, Kind, boolean, signed, unsigned, floating, codeOf, kindOf, widthIn, widthOf, patternIn, signedValue, unsignedValue, floatingValue, valueOf}
 use Rattle.typed.specs.Reading.{goodCode, goodBoolean, readOf}
 use Rattle.typed.specs.Writing.{verdictOf, bytesFor}

@@ -10,10 +10,10 @@ use mir.Syntax.{Width, w8, w16, w32}
 use mir.Val.{SFits, bits, ofZ}
 use mir.Facts.{toZ-ofZ, fits-ofZ}
 use borrow.Author.Tests.{not-false}
-use Rattle.octets.specs.Float.{isNanPattern, number-back}
 use Rattle.octets.specs.Number.{numberOf, bytesOf, number-bytes}
 use Rattle.octets.specs.Front.{fine}
 use Rattle.octets.specs.Fixed.{passed}
+use Rattle.float.specs.Float.{isNanPattern, number-back}
 use Rattle.typed.specs.Value.{InRange, codeOf, kindOf, widthOf, patternIn, floatingValue, valueOf}
 use Rattle.typed.specs.Reading.{readOf}
 use Rattle.typed.specs.Writing.{verdictOf, bytesFor}

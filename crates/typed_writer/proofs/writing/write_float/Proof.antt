@@ -2,8 +2,8 @@
 use mathlib.Core.Path.{sym, _∙_}
 use denote.Ref.{now}
 use borrow.Author.Needs.{needs}
-use Rattle.octets.specs.Float.{known, unknown}
 use Rattle.octets.specs.Front.{refused}
+use Rattle.float.specs.Float.{known, unknown}
 use Rattle.typed.specs.Value.{kindOf}
 use Rattle.typed.specs.Writing.{bytesFor}
 use Rattle.typed.specs.declared.value.Value.the-variants.{Float}

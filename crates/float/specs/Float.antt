@@ -5,11 +5,11 @@ use mathlib.Core.Bool.{Bool, true, false, not}
 use lib.Dec.{T}
 use lib.Ieee.{Float, binary32, fits, nanBits, ofBits, toBits, isNan}
 use lib.Ieee.Bits.{toBits-ofBits, ofBits-toBits, nanBits-is}
 use Rattle.octets.specs.Choice.{pick}
-use Rattle.octets.specs.declared.float.Floating.{Floating}
-use Rattle.octets.specs.declared.float.Floating.the-variants.{Number, Nan}
-use Rattle.octets.specs.declared.float.Pattern.{Pattern}
-use Rattle.octets.specs.declared.float.Pattern.the-variants.{Bits, Unknown}
+use Rattle.float.specs.declared.Floating.{Floating}
+use Rattle.float.specs.declared.Floating.the-variants.{Number, Nan}
+use Rattle.float.specs.declared.Pattern.{Pattern}
+use Rattle.float.specs.declared.Pattern.the-variants.{Bits, Unknown}
 
 -- is it a NaN's pattern: every bit of the exponent set, and a bit behind them
 abbrev pub isNanPattern : ℕ → Bool

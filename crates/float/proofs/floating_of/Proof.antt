@@ -1,10 +1,10 @@
--- `octets::float::floating_of` meets its contract: a pattern that is no NaN's is made a number.
+-- `float::floating_of` meets its contract: a pattern that is no NaN's is made a number.
 use mathlib.Core.Path.{_≡_, sym, _∙_}
 use mathlib.Core.Bool.{false}
 use borrow.Author.Needs.{needs}
-use Rattle.octets.specs.Float.{isNanPattern}
-use Rattle.octets.proofs.float.floating_of.Statement.{statement}
-use Rattle.octets.proofs.float.floating_of.Tie as tie
+use Rattle.float.specs.Float.{isNanPattern}
+use Rattle.float.proofs.floating_of.Statement.{statement}
+use Rattle.float.proofs.floating_of.Tie as tie
 
 is-nan-pattern-requires : tie.Need-is-nan-pattern-requires
 is-nan-pattern-requires c κs = search needs

@@ -1,11 +1,11 @@
--- `octets::float::pattern_of` meets its contract: a NaN alone differs from itself.
+-- `float::pattern_of` meets its contract: a NaN alone differs from itself.
 use mathlib.Core.Path.{_≡_, refl, sym, subst}
 use mathlib.Core.Bool.{true, false}
 use lib.Dec.{T}
 use lib.Ieee.{Float, nan, inf, fin, isNan, ne, eq}
 use lib.Ieee.Compare.{differs-from-itself}
-use Rattle.octets.proofs.float.pattern_of.Statement.{statement}
-use Rattle.octets.proofs.float.pattern_of.Tie as tie
+use Rattle.float.proofs.pattern_of.Statement.{statement}
+use Rattle.float.proofs.pattern_of.Tie as tie
 
 differs : (x : Float) → ne x x ≡ true → isNan x ≡ true
 unfolding isNan

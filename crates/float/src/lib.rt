@@ -1,7 +1,7 @@
 // Patterns of 32 bits and the floating-point numbers that they stand for. The language has one NaN
 // and no way from a NaN's pattern to an `f32` or back, so such a pattern stays a number here.
 ghost use mathlib.Core.Path.{_≡_};
-ghost use Rattle.octets.specs.Float.{isNanPattern, floatingOf, patternOf};
+ghost use Rattle.float.specs.Float.{isNanPattern, floatingOf, patternOf};
 
 // What a pattern of 32 bits stands for: a number, infinities and zeros of either sign included, or a
 // NaN, with the 32 bits as they are.
