@@ -49,7 +49,7 @@ pub fn counted(least: usize, count: usize) -> Check
 }
 
 // The same, where the last of the fixed bytes must say how many.
-pub(crate) fn counted_as(length: u8, least: usize, count: usize) -> Check
+pub fn counted_as(length: u8, least: usize, count: usize) -> Check
     ensures { λ r. ⌜ verdictIn r ≡ countedAsOf length least count ⌝ }
 {
     if count != length as usize {

@@ -1,5 +1,5 @@
-// Acyclic services of DPV1 (document 01, "DPV1"): calls and answers, read, and the definitions and laws of
-// both ways; the crate acyclic_writer writes.
+// Acyclic services of DPV1 (document 01, "DPV1"): what calls and answers are, the judgements that their reader and
+// their writer share, and the definitions and laws of both ways.
 mod answers;
 mod calls;
 mod errors;
@@ -8,13 +8,14 @@ mod numbers;
 
 pub use answers::Answer;
 pub use answers::AnswerReading;
-pub use answers::read_answer;
 pub use calls::Call;
 pub use calls::CallReading;
-pub use calls::read_call;
 pub use forms::Check;
 pub use forms::alone;
 pub use forms::counted;
+pub use forms::counted_as;
 pub use forms::negative;
 pub use forms::ranged;
 pub use numbers::Function;
+pub use numbers::allowed_in_answers;
+pub use numbers::allowed_in_calls;

@@ -11,7 +11,7 @@ pub enum Function {
     Transport,
 }
 
-pub(crate) fn allowed_in_calls(number: u8) -> bool
+pub fn allowed_in_calls(number: u8) -> bool
     ensures { λ r. ⌜ r ≡ allowedInCalls number ⌝ }
 {
     match number {
@@ -25,7 +25,7 @@ pub(crate) fn allowed_in_calls(number: u8) -> bool
 }
 
 // The same numbers, and the negative ones.
-pub(crate) fn allowed_in_answers(number: u8) -> bool
+pub fn allowed_in_answers(number: u8) -> bool
     ensures { λ r. ⌜ r ≡ allowedInAnswers number ⌝ }
 {
     if allowed_in_calls(number) {

@@ -1,5 +1,4 @@
-// Writing calls and answers of DPV1 (document 01, "DPV1"), held to the definitions of the crate acyclic,
-// which reads them.
+// Writing calls and answers of DPV1 (document 01, "DPV1"), held to the definitions of the crate acyclic.
 mod answers;
 mod calls;
 mod forms;

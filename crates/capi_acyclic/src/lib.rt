@@ -16,7 +16,7 @@ pub extern "C" fn rabtunex_read_dpv1_call(bytes: &[u8], fields: &mut [u8; 6]) ->
     ensures refusal { λ r. ⌜ r ≡ callRefusal (readCallOf (now (bytes .entry))) ⌝ }
     ensures fields { λ _. ⌜ now (fields .exit) ≡ callAfter (readCallOf (now (bytes .entry))) (now (fields .entry)) ⌝ }
 {
-    let reading = acyclic::read_call(bytes);
+    let reading = acyclic_reader::read_call(bytes);
     match reading {
         CallReading::Call { call, start, len } => {
             let call = fields::call_four(call);
@@ -33,7 +33,7 @@ pub extern "C" fn rabtunex_read_dpv1_answer(bytes: &[u8], fields: &mut [u8; 6]) 
     ensures refusal { λ r. ⌜ r ≡ answerRefusal (readAnswerOf (now (bytes .entry))) ⌝ }
     ensures fields { λ _. ⌜ now (fields .exit) ≡ answerAfter (readAnswerOf (now (bytes .entry))) (now (fields .entry)) ⌝ }
 {
-    let reading = acyclic::read_answer(bytes);
+    let reading = acyclic_reader::read_answer(bytes);
     match reading {
         AnswerReading::Answer { answer, start, len } => {
             let answer = fields::answer_four(answer);

@@ -122,7 +122,7 @@ fn read_configuration(content: Content, user: &[u8]) -> UserData
 fn read_dpv1_call(user: &[u8]) -> UserData
     ensures { λ r. ⌜ r ≡ dpv1CallOf (now (user .entry)) ⌝ }
 {
-    let reading = acyclic::read_call(user);
+    let reading = acyclic_reader::read_call(user);
     match reading {
         CallReading::Call { call, start, len } => UserData::Is {
             content: Content::Dpv1Call(call),
@@ -136,7 +136,7 @@ fn read_dpv1_call(user: &[u8]) -> UserData
 fn read_dpv1_answer(user: &[u8]) -> UserData
     ensures { λ r. ⌜ r ≡ dpv1AnswerOf (now (user .entry)) ⌝ }
 {
-    let reading = acyclic::read_answer(user);
+    let reading = acyclic_reader::read_answer(user);
     match reading {
         AnswerReading::Answer { answer, start, len } => UserData::Is {
             content: Content::Dpv1Answer(answer),

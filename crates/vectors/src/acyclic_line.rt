@@ -76,7 +76,7 @@ fn call_place(call: Call, start: usize, len: usize) {
 }
 
 pub(crate) fn call_line(bytes: &[u8], out: &mut [u8]) {
-    match acyclic::read_call(bytes) {
+    match acyclic_reader::read_call(bytes) {
         CallReading::Refused(refusal) => {
             refused(refusal);
             text(b"\n");
@@ -167,7 +167,7 @@ fn answer_place(answer: Answer, start: usize, len: usize) {
 }
 
 pub(crate) fn answer_line(bytes: &[u8], out: &mut [u8]) {
-    match acyclic::read_answer(bytes) {
+    match acyclic_reader::read_answer(bytes) {
         AnswerReading::Refused(refusal) => {
             refused(refusal);
             text(b"\n");

@@ -1,9 +1,9 @@
--- `acyclic::answers::negative_by` meets its contract. The definition goes by the same numbers.
+-- `acyclic_reader::answers::negative_by` meets its contract. The definition goes by the same numbers.
 use borrow.Author.Tests.{ne-eqb}
 use borrow.Author.Needs.{needs}
 use Rattle.acyclic.specs.Answers.{negativeBy}
-use Rattle.acyclic.proofs.answers.negative_by.Statement.{statement}
-use Rattle.acyclic.proofs.answers.negative_by.Tie as tie
+use Rattle.acyclic_reader.proofs.answers.negative_by.Statement.{statement}
+use Rattle.acyclic_reader.proofs.answers.negative_by.Tie as tie
 
 failed-requires : tie.Need-failed-requires
 failed-requires c κs = search needs

@@ -1,9 +1,9 @@
--- `acyclic::calls::four` meets its contract. The definition goes by the same numbers, each with the same form.
+-- `acyclic_reader::calls::four` meets its contract. The definition goes by the same numbers, each with the same form.
 use borrow.Author.Tests.{ne-eqb}
 use borrow.Author.Needs.{needs}
 use Rattle.acyclic.specs.Calls.{fourOf}
-use Rattle.acyclic.proofs.calls.four.Statement.{statement}
-use Rattle.acyclic.proofs.calls.four.Tie as tie
+use Rattle.acyclic_reader.proofs.calls.four.Statement.{statement}
+use Rattle.acyclic_reader.proofs.calls.four.Tie as tie
 
 ranged-requires : tie.Need-ranged-requires
 ranged-requires c κs = search needs

@@ -1,11 +1,11 @@
--- `acyclic::calls::call_at` meets its contract. The check has the verdict.
+-- `acyclic_reader::calls::call_at` meets its contract. The check has the verdict.
 use mathlib.Core.Path.{sym, ap}
 use borrow.Author.Needs.{needs}
 use Rattle.acyclic.specs.Forms.{verdictIn}
 use Rattle.acyclic.specs.Calls.{callAt}
 use Rattle.acyclic.specs.declared.forms.Check.{Check}
-use Rattle.acyclic.proofs.calls.call_at.Statement.{statement}
-use Rattle.acyclic.proofs.calls.call_at.Tie as tie
+use Rattle.acyclic_reader.proofs.calls.call_at.Statement.{statement}
+use Rattle.acyclic_reader.proofs.calls.call_at.Tie as tie
 
 enum-known-check : tie.Need-enum-known-check
 enum-known-check c = search needs

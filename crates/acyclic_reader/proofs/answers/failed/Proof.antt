@@ -1,7 +1,7 @@
--- `acyclic::answers::failed` meets its contract. The check has the verdict.
+-- `acyclic_reader::answers::failed` meets its contract. The check has the verdict.
 use borrow.Author.Needs.{needs}
-use Rattle.acyclic.proofs.answers.failed.Statement.{statement}
-use Rattle.acyclic.proofs.answers.failed.Tie as tie
+use Rattle.acyclic_reader.proofs.answers.failed.Statement.{statement}
+use Rattle.acyclic_reader.proofs.answers.failed.Tie as tie
 
 negative-requires : tie.Need-negative-requires
 negative-requires c κs = search needs

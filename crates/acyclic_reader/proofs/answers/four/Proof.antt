@@ -1,9 +1,9 @@
--- `acyclic::answers::four` meets its contract. The definition goes by the same numbers, each with the same form.
+-- `acyclic_reader::answers::four` meets its contract. The definition goes by the same numbers, each with the same form.
 use borrow.Author.Tests.{ne-eqb}
 use borrow.Author.Needs.{needs}
 use Rattle.acyclic.specs.Answers.{fourOf}
-use Rattle.acyclic.proofs.answers.four.Statement.{statement}
-use Rattle.acyclic.proofs.answers.four.Tie as tie
+use Rattle.acyclic_reader.proofs.answers.four.Statement.{statement}
+use Rattle.acyclic_reader.proofs.answers.four.Tie as tie
 
 counted-as-requires : tie.Need-counted-as-requires
 counted-as-requires c κs = search needs
