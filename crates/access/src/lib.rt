@@ -1,13 +1,13 @@
-// The list of access points (document 01, "Services by access point"): which service a telegram's
-// header names, and which way it goes.
+// The services by access point (document 01, "Services by access point"): their types, and the definitions
+// and laws of the list and of a telegram's route; the crate access_table has the list, and routing the route.
 mod route;
 mod table;
 
 pub use route::Answering;
+pub use route::Kind;
+pub use route::Named;
 pub use route::Route;
-pub use route::header_of;
-pub use route::route_of;
 pub use table::Found;
+pub use table::Points;
 pub use table::Row;
 pub use table::Service;
-pub use table::find;

@@ -22,11 +22,11 @@ fn reserved_number(format: Format, da: u8, sa: u8, fc: u8, len: usize) -> u8
     if 246 < len {
         return 12;
     }
-    let header = access::header_of(Service::Dpv1, da, sa, fc);
+    let header = routing::header_of(Service::Dpv1, da, sa, fc);
     if !framing::writable(format, header, 4 + len) {
         return 12;
     }
-    let route = access::route_of(header);
+    let route = routing::route_of(header);
     match route {
         Route::Nowhere => 10,
         Route::Call(_) => 28,

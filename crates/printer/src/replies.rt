@@ -75,7 +75,7 @@ fn say_diagnosis(diagnosis: &[u8], address: u8, to: u8, out: &mut [u8]) -> u8
     requires { ⌜ Ready (now diagnosis) address to (now out) ⌝ }
     ensures { λ r. ⌜ AtFront (diagnosisBytes to address (now (diagnosis .entry))) (now (out .entry)) (now (out .exit)) r ⌝ }
 {
-    let header = access::header_of(Service::SlaveDiag, to, address, DATA);
+    let header = routing::header_of(Service::SlaveDiag, to, address, DATA);
     stored(fdl_writer::write(Format::Sd2, header, diagnosis, out))
 }
 
@@ -110,7 +110,7 @@ fn say_result(outcome: Outcome, address: u8, to: u8, out: &mut [u8]) -> u8
     requires { ⌜ Between address to (now out) ⌝ }
     ensures { λ r. ⌜ AtFront (outcomeBytes to address outcome) (now (out .entry)) (now (out .exit)) r ⌝ }
 {
-    let header = access::header_of(Service::Dpv1, to, address, DATA);
+    let header = routing::header_of(Service::Dpv1, to, address, DATA);
     let start = framing::user_start(Format::Sd2, header);
     let len = put_result(outcome, &mut out[start..]);
     stored(fdl_writer::write_around(Format::Sd2, header, len, out))

@@ -41,7 +41,7 @@ fn routed(format: Format, header: Header, at: usize, user: &[u8], mode: Mode) ->
     requires { ⌜ at + length (now user) ≤ 18446744073709551615 ⌝ }
     ensures { λ r. ⌜ r ≡ routedBy (routeOf header) format header at (now (user .entry)) mode ⌝ }
 {
-    let route = access::route_of(header);
+    let route = routing::route_of(header);
     match route {
         Route::Nowhere => Reading::Refused(Refusal { number: 10 }),
         Route::Call(service) => {

@@ -1,0 +1,189 @@
+// Which service a telegram's function code and access points name, and which way it goes (document 01,
+// "Services by access point").
+ghost use mathlib.Core.Path.{_≡_};
+ghost use Rattle.access.specs.Route.{uncountedKind, kindOf, namedIn, namedBy, isGlobalControl, callRoute, commandRoute, answerFrom, answerRoute, headerWith, headerOf, routeOf};
+use access::Answering;
+use access::Found;
+use access::Kind;
+use access::Named;
+use access::Route;
+use access::Service;
+use access_table::find;
+use access_table::points_of;
+use fdl::Header;
+use fdl::Sap;
+use function_code::Class;
+
+// Functions 4 and 6 carry Global_Control, and no other uncounted call carries a service.
+fn uncounted_kind(fc: u8) -> Kind
+    ensures { λ r. ⌜ r ≡ uncountedKind fc ⌝ }
+{
+    let function = fc % 16;
+    match function {
+        4 => Kind::Command,
+        6 => Kind::Command,
+        _ => Kind::Other,
+    }
+}
+
+fn kind_of(fc: u8) -> Kind
+    ensures { λ r. ⌜ r ≡ kindOf fc ⌝ }
+{
+    let class = function_code::class_of(fc);
+    match class {
+        Class::Opening => Kind::Call,
+        Class::Counted => Kind::Call,
+        Class::Uncounted => uncounted_kind(fc),
+        Class::Bare => Kind::Other,
+        Class::Data => Kind::Answer,
+        Class::Reserved => Kind::Other,
+    }
+}
+
+fn named_in(found: Found) -> Named
+    ensures { λ r. ⌜ r ≡ namedIn found ⌝ }
+{
+    match found {
+        Found::Is(row) => {
+            let service = row.service;
+            Named::Is(service)
+        }
+        Found::Nothing => Named::Nothing,
+    }
+}
+
+// The service of the slave's and the master's access point. One of two names none.
+fn named_by(slave: Sap, master: Sap) -> Named
+    ensures { λ r. ⌜ r ≡ namedBy slave master ⌝ }
+{
+    match slave {
+        Sap::Absent => match master {
+            Sap::Absent => Named::Is(Service::DataExchange),
+            Sap::Present(_) => Named::Nothing,
+        },
+        Sap::Present(slave) => match master {
+            Sap::Absent => Named::Nothing,
+            Sap::Present(master) => named_in(find(slave, master)),
+        },
+    }
+}
+
+fn is_global_control(service: Service) -> bool
+    ensures { λ r. ⌜ r ≡ isGlobalControl service ⌝ }
+{
+    match service {
+        Service::DataExchange => false,
+        Service::Dpv1 => false,
+        Service::ExtUserPrm => false,
+        Service::SetSlaveAdr => false,
+        Service::RdInp => false,
+        Service::RdOutp => false,
+        Service::GlobalControl => true,
+        Service::GetCfg => false,
+        Service::SlaveDiag => false,
+        Service::SetPrm => false,
+        Service::ChkCfg => false,
+    }
+}
+
+// An opening or counted call carries any service but Global_Control.
+fn call_route(named: Named) -> Route
+    ensures { λ r. ⌜ r ≡ callRoute named ⌝ }
+{
+    match named {
+        Named::Nothing => Route::Nowhere,
+        Named::Is(service) => {
+            if is_global_control(service) {
+                return Route::Nowhere;
+            }
+            Route::Call(service)
+        }
+    }
+}
+
+// Functions 4 and 6 carry Global_Control alone.
+fn command_route(named: Named) -> Route
+    ensures { λ r. ⌜ r ≡ commandRoute named ⌝ }
+{
+    match named {
+        Named::Nothing => Route::Nowhere,
+        Named::Is(service) => {
+            if is_global_control(service) {
+                return Route::Call(service);
+            }
+            Route::Nowhere
+        }
+    }
+}
+
+// The services that answer with data; an answer of any other goes the wrong way.
+fn answer_from(service: Service) -> Route
+    ensures { λ r. ⌜ r ≡ answerFrom service ⌝ }
+{
+    match service {
+        Service::DataExchange => Route::Answer(Answering::DataExchange),
+        Service::Dpv1 => Route::Answer(Answering::Dpv1),
+        Service::ExtUserPrm => Route::Nowhere,
+        Service::SetSlaveAdr => Route::Nowhere,
+        Service::RdInp => Route::Answer(Answering::RdInp),
+        Service::RdOutp => Route::Answer(Answering::RdOutp),
+        Service::GlobalControl => Route::Nowhere,
+        Service::GetCfg => Route::Answer(Answering::GetCfg),
+        Service::SlaveDiag => Route::Answer(Answering::SlaveDiag),
+        Service::SetPrm => Route::Nowhere,
+        Service::ChkCfg => Route::Nowhere,
+    }
+}
+
+fn answer_route(named: Named) -> Route
+    ensures { λ r. ⌜ r ≡ answerRoute named ⌝ }
+{
+    match named {
+        Named::Nothing => Route::Nowhere,
+        Named::Is(service) => answer_from(service),
+    }
+}
+
+fn header_with(da: u8, sa: u8, fc: u8, dsap: Sap, ssap: Sap) -> Header
+    ensures { λ r. ⌜ r ≡ headerWith da sa fc dsap ssap ⌝ }
+{
+    Header {
+        da,
+        sa,
+        fc,
+        dsap,
+        ssap,
+    }
+}
+
+// The header of a service's telegram. A call goes to the slave's access point, and an answer comes
+// from it: there the pair is turned round.
+pub fn header_of(service: Service, da: u8, sa: u8, fc: u8) -> Header
+    ensures { λ r. ⌜ r ≡ headerOf service da sa fc ⌝ }
+{
+    let points = points_of(service);
+    let slave = points.slave;
+    let master = points.master;
+    let kind = kind_of(fc);
+    match kind {
+        Kind::Call => header_with(da, sa, fc, slave, master),
+        Kind::Command => header_with(da, sa, fc, slave, master),
+        Kind::Answer => header_with(da, sa, fc, master, slave),
+        Kind::Other => header_with(da, sa, fc, slave, master),
+    }
+}
+
+// The route of a telegram with this header.
+pub fn route_of(header: Header) -> Route
+    ensures { λ r. ⌜ r ≡ routeOf header ⌝ }
+{
+    let dsap = header.dsap;
+    let ssap = header.ssap;
+    let kind = kind_of(header.fc);
+    match kind {
+        Kind::Call => call_route(named_by(dsap, ssap)),
+        Kind::Command => command_route(named_by(dsap, ssap)),
+        Kind::Answer => answer_route(named_by(ssap, dsap)),
+        Kind::Other => Route::Nowhere,
+    }
+}
