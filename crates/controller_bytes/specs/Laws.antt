@@ -1,10 +1,10 @@
 -- The bytes of a controller's state are the state of what they were made from: a step takes up exactly what the step before
 -- it left.
 use mathlib.Core.Path.{_≡_, refl}
+use Rattle.octets.specs.Bits.{bit-low, bit-again}
 use Rattle.protocol.specs.declared.controller.Job.the-variants as job
 use Rattle.protocol.specs.declared.controller.Controller.{Controller}
 use Rattle.protocol.specs.declared.controller.Controller.the-variants as controller
-use Rattle.printer_bytes.specs.Bits.{bit-low, bit-again}
 use Rattle.controller_bytes.specs.State.{askingBy, controllerIn, controllerBytes}
 use Rattle.controller_bytes.specs.declared.state.ControllerFound.the-variants as controller-found
 

@@ -6,12 +6,12 @@ use mathlib.Core.List.{List, [], _∷_}
 use lib.Dec.{eqb, ltb}
 use lib.ListN.{getD}
 use Rattle.octets.specs.Choice.{pick}
+use Rattle.octets.specs.Bits.{bitOf}
 use Rattle.protocol.specs.declared.controller.Settings.{Settings}
 use Rattle.protocol.specs.declared.controller.Job.{Job}
 use Rattle.protocol.specs.declared.controller.Job.the-variants as job
 use Rattle.protocol.specs.declared.controller.Controller.{Controller}
 use Rattle.protocol.specs.declared.controller.Controller.the-variants as controller
-use Rattle.printer_bytes.specs.Bits.{bitOf}
 use Rattle.controller_bytes.specs.declared.state.ControllerFound.{ControllerFound}
 use Rattle.controller_bytes.specs.declared.state.ControllerFound.the-variants.{Is, Unknown}
 

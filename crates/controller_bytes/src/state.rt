@@ -1,7 +1,7 @@
 // What is set for a download as four bytes, and the controller's state as five.
 ghost use mathlib.Core.Path.{_≡_};
 ghost use Rattle.controller_bytes.specs.State.{settingsIn, askingBy, controllerIn, controllerBytes};
-use printer_bytes::bit_of;
+use octets::bit_of;
 use protocol::Controller;
 use protocol::Job;
 use protocol::Settings;

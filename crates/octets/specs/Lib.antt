@@ -1,4 +1,5 @@
 pub mod Choice
+pub mod Bits
 pub mod Bytes
 pub mod Elements
 pub mod Number

@@ -1,7 +1,8 @@
-// What every format of the library shares: the answers of readers and writers, numbers high byte
-// first, storing at the front of a lent slice, and handing back a part of one.
+// What every format of the library shares: the answers of readers and writers, a test as a byte, numbers
+// high byte first, storing at the front of a lent slice, and handing back a part of one.
 ghost use mathlib.Core.Path.{_≡_};
 ghost use mathlib.Core.List.{_∷_, []};
+ghost use Rattle.octets.specs.Bits.{bitOf};
 ghost use Rattle.octets.specs.Number.{numberOf, bytesOf};
 ghost use Rattle.octets.specs.Front.{countOf, frontOf, countBehind, heldBehind};
 ghost use Rattle.octets.specs.Part.{partOf};
@@ -22,6 +23,13 @@ pub enum Written {
 pub enum Mode {
     Dpv0,
     Dpv1,
+}
+
+// A test as a byte.
+pub fn bit_of(test: bool) -> u8
+    ensures { λ r. ⌜ r ≡ bitOf test ⌝ }
+{
+    if test { 1 } else { 0 }
 }
 
 // The number of two bytes, high byte first.

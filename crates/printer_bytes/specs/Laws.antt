@@ -3,11 +3,11 @@
 use Prim.Native.Nat.{ℕ}
 use mathlib.Core.Path.{_≡_}
 use mathlib.Core.Bool.{Bool}
+use Rattle.octets.specs.Bits.{bit-low, bit-again}
 use Rattle.protocol.specs.declared.printer.Outcome.the-variants as outcome
 use Rattle.protocol.specs.declared.printer.Pending.{Pending}
 use Rattle.protocol.specs.declared.printer.Pending.the-variants as pending
 use Rattle.protocol.specs.declared.printer.Printer.{Printer}
-use Rattle.printer_bytes.specs.Bits.{bit-low, bit-again}
 use Rattle.printer_bytes.specs.State.{pendingBy, printerIn, printerBytes}
 use Rattle.printer_bytes.specs.declared.state.PrinterFound.the-variants as printer-found
 

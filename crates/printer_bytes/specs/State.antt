@@ -5,12 +5,12 @@ use mathlib.Core.List.{List, [], _∷_}
 use lib.Dec.{eqb, ltb}
 use lib.ListN.{getD}
 use Rattle.octets.specs.Choice.{pick}
+use Rattle.octets.specs.Bits.{bitOf}
 use Rattle.protocol.specs.declared.printer.Outcome.{Outcome}
 use Rattle.protocol.specs.declared.printer.Outcome.the-variants as outcome
 use Rattle.protocol.specs.declared.printer.Pending.{Pending}
 use Rattle.protocol.specs.declared.printer.Pending.the-variants as pending
 use Rattle.protocol.specs.declared.printer.Printer.{Printer}
-use Rattle.printer_bytes.specs.Bits.{bitOf}
 use Rattle.printer_bytes.specs.declared.state.Five.{Five}
 use Rattle.printer_bytes.specs.declared.state.PendingFound.{PendingFound}
 use Rattle.printer_bytes.specs.declared.state.PendingFound.the-variants as pending-found

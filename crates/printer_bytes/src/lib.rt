@@ -2,6 +2,5 @@
 mod state;
 
 pub use state::PrinterFound;
-pub use state::bit_of;
 pub use state::printer_in;
 pub use state::put_printer;

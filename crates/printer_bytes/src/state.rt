@@ -1,7 +1,7 @@
 // The printer's state as eleven bytes.
 ghost use mathlib.Core.Path.{_≡_};
-ghost use Rattle.printer_bytes.specs.Bits.{bitOf};
 ghost use Rattle.printer_bytes.specs.State.{pendingBy, printerIn, pendingBytes, fiveBytes, printerBytes};
+use octets::bit_of;
 use protocol::Outcome;
 use protocol::Pending;
 use protocol::Printer;
@@ -19,13 +19,6 @@ enum PendingFound {
 
 // The pending result: its kind, three fields that each kind has its own use for, and the polls before it.
 struct Five(u8, u8, u8, u8, u8);
-
-// A test as a byte.
-pub fn bit_of(test: bool) -> u8
-    ensures { λ r. ⌜ r ≡ bitOf test ⌝ }
-{
-    if test { 1 } else { 0 }
-}
 
 fn pending_by(kind: u8, first: u8, second: u8, third: u8, wait: u8) -> PendingFound
     ensures { λ r. ⌜ r ≡ pendingBy kind first second third wait ⌝ }
