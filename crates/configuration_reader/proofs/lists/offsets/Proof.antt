@@ -7,7 +7,8 @@ use denote.Ref.{now}
 use borrow.Author.Needs.{needs}
 use borrow.Author.Tests.{lt-ltb, le-ltb}
 use Rattle.configuration.specs.Walk.{walkOf}
-use Rattle.configuration.specs.Reading.{inputOf, outputOf, readOf, offsetsBy, withRoom}
+use Rattle.octets.specs.Front.{stores}
+use Rattle.configuration.specs.Reading.{inputOf, outputOf, inputOffsets, outputOffsets, readOf, offsetsBy, withRoom}
 use Rattle.configuration.specs.Lemmas.Accepted.{accepted, counted}
 use Rattle.configuration.specs.declared.fields.Module.{Module}
 use Rattle.configuration.specs.declared.reading.Reading.the-variants.{Configuration}
@@ -53,14 +54,10 @@ unfolding withRoom
 returns-2 c =
     simp (read-is (c .before .before .before), le-ltb _ _ (c .before .if1 .left), lt-ltb _ _ (c .if2 .taken)) (refl, (refl, refl))
 
-fill-requires : tie.Need-fill-requires
-fill-requires c κs =
-    let e = c .before .before in
-    let r = e .before .before .before in (
-      accepted (now (entry r .args .bytes)) (read-is r) .most,
-      omega (arith, as-many r inputOf, e .before .if1 .left),
-      omega (arith, as-many r outputOf, e .if2 .left),
-    )
+gather-requires : tie.Need-gather-requires
+gather-requires c κs =
+    let r = c .before .before .before .before .before in
+    accepted (now (entry r .args .bytes)) (read-is r) .most
 
 enum-known-reading-2 : tie.Need-enum-known-reading-2
 enum-known-reading-2 c = search needs
@@ -74,7 +71,17 @@ same-length-2 c = search needs
 returns-3 : tie.Need-returns-3
 returns-3 c =
     let f = c .before .before .before .before in
-    rw (room (f .before .before .before)) (refl, f .fill .ensures)
+    let e = f .before .before .before in
+    let r = e .before .before .before in
+    let a = entry r .args in
+    let g = f .gather .ensures .1 in
+    rw (room e) (
+      refl,
+      (
+        g .0 ∙ stores (inputOffsets (now (a .bytes))) (now (a .inputs)) (omega (arith, as-many r inputOf, e .before .if1 .left)) .bytes,
+        g .1 ∙ stores (outputOffsets (now (a .bytes))) (now (a .outputs)) (omega (arith, as-many r outputOf, e .if2 .left)) .bytes,
+      ),
+    )
 
 returns-4 : tie.Need-returns-4
 unfolding withRoom
@@ -90,7 +97,7 @@ offsets-spec =
     enum-known-reading
     returns
     returns-2
-    fill-requires
+    gather-requires
     enum-known-reading-2
     same-length
     same-length-2
