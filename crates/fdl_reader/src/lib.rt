@@ -3,7 +3,8 @@ ghost use mathlib.Core.Path.{_≡_};
 ghost use Prim.Native.Nat.{_+_, _≤_};
 ghost use lib.ListN.{length};
 ghost use Rattle.function_code.specs.Code.{classOf};
-ghost use Rattle.fdl.specs.Reading.{extensionOf, sourceOf, destinationOf, fieldsOf, framedOf, readOf};
+ghost use Rattle.fdl.specs.Reading.{extensionOf, sourceOf, destinationOf, fieldsOf, framedOf, tokenOf, readOf};
+ghost use Rattle.fdl_leading.specs.Leading.{placeOf};
 use fdl::Extension;
 use fdl::Format;
 use fdl::Header;
@@ -117,6 +118,38 @@ fn framed(s: &[u8], format: Format, at: usize, pdu: usize) -> Reading
     fields(s, format, at, pdu)
 }
 
+// A token's addresses, bit 7 counted.
+fn token(s: &[u8]) -> Reading
+    ensures { λ r. ⌜ r ≡ tokenOf (now (s .entry)) ⌝ }
+{
+    if s.len() < 3 {
+        return Reading::Refused(Refusal { number: 1 });
+    }
+    if 3 < s.len() {
+        return Reading::Refused(Refusal { number: 4 });
+    }
+    let da = s[1];
+    if 126 < da {
+        return Reading::Refused(Refusal { number: 7 });
+    }
+    let sa = s[2];
+    if 126 < sa {
+        return Reading::Refused(Refusal { number: 7 });
+    }
+    Reading::Token { da, sa }
+}
+
+// Where DA stands.
+fn place_of(format: Format) -> usize
+    ensures { λ r. ⌜ r ≡ placeOf format ⌝ }
+{
+    match format {
+        Format::Sd1 => 1,
+        Format::Sd2 => 4,
+        Format::Sd3 => 1,
+    }
+}
+
 // Reads a telegram: all of the lent slice is one. The frame is looked at in one place, for all formats: called
 // once, it is compiled into this function, and its answer is not copied.
 pub fn read(bytes: &[u8]) -> Reading
@@ -124,7 +157,9 @@ pub fn read(bytes: &[u8]) -> Reading
 {
     let found = fdl_leading::leading_bytes(bytes);
     match found {
-        Leading::Framed { format, at, pdu } => framed(bytes, format, at, pdu),
-        Leading::Is(reading) => reading,
+        Leading::Framed { format, pdu } => framed(bytes, format, place_of(format), pdu as usize),
+        Leading::Token => token(bytes),
+        Leading::Confirmation => Reading::Confirmation,
+        Leading::Refused(refusal) => Reading::Refused(refusal),
     }
 }

@@ -16,12 +16,9 @@ shared-slice-read-start c = search needs
 sd2-requires : tie.Need-sd2-requires
 sd2-requires c κs = search needs
 
-token-requires : tie.Need-token-requires
-token-requires c κs = search needs
-
 returns-2 : tie.Need-returns-2
 unfolding readBy
-returns-2 c = (simp (ne-eqb _ _ (c .before .before .if1 .left), c .match .keys1), omega arith, omega arith)
+returns-2 c = (simp (ne-eqb _ _ (c .before .before .if1 .left), c .match .keys1), omega arith)
 
 returns-3 : tie.Need-returns-3
 unfolding readBy
@@ -29,11 +26,11 @@ returns-3 c = simp (ne-eqb _ _ (c .before .before .before .if1 .left), c .before
 
 returns-4 : tie.Need-returns-4
 unfolding readBy
-returns-4 c = (simp (ne-eqb _ _ (c .before .before .if1 .left), c .match .keys3), omega arith, omega arith)
+returns-4 c = (simp (ne-eqb _ _ (c .before .before .if1 .left), c .match .keys3), omega arith)
 
 returns-5 : tie.Need-returns-5
 unfolding readBy
-returns-5 c = simp (ne-eqb _ _ (c .before .before .before .if1 .left), c .before .match .keys4) (c .token .ensures)
+returns-5 c = simp (ne-eqb _ _ (c .before .before .if1 .left), c .match .keys4)
 
 returns-6 : tie.Need-returns-6
 unfolding readBy
@@ -56,7 +53,6 @@ leading-bytes-spec =
     returns
     shared-slice-read-start
     sd2-requires
-    token-requires
     returns-2
     returns-3
     returns-4

@@ -38,11 +38,8 @@ returns-5 c =
     let a = b .before .before in
     simp (le-ltb _ _ (a .before .before .before .if1 .left), le-ltb _ _ (a .before .if2 .left), le-ltb _ _ (a .if3 .left), eq-eqb _ _ (b .if4 .left), ne-eqb _ _ (c .if5 .taken))
 
-cast-t3 : tie.Need-cast-t3
-cast-t3 c = search needs
-
-sub-t20 : tie.Need-sub-t20
-sub-t20 c = search needs
+sub-t7 : tie.Need-sub-t7
+sub-t7 c = search needs
 
 returns-6 : tie.Need-returns-6
 unfolding sd2Of
@@ -56,7 +53,6 @@ returns-6 c =
         eq-eqb _ _ (b .if4 .left),
         eq-eqb _ _ (c .if5 .left),
       ),
-      omega arith,
       omega (arith, a .if3 .left),
     )
 
@@ -72,6 +68,5 @@ sd2-spec =
     returns-4
     shared-slice-read-if5
     returns-5
-    cast-t3
-    sub-t20
+    sub-t7
     returns-6)

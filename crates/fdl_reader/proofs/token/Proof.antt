@@ -1,9 +1,9 @@
--- `fdl_leading::token` meets its contract. The definition has the same tests in the same order.
+-- `fdl_reader::token` meets its contract. The definition has the same tests in the same order.
 use Rattle.fdl.specs.Reading.{tokenOf}
 use borrow.Author.Tests.{lt-ltb, le-ltb}
 use borrow.Author.Needs.{needs}
-use Rattle.fdl_leading.proofs.token.Statement.{statement}
-use Rattle.fdl_leading.proofs.token.Tie as tie
+use Rattle.fdl_reader.proofs.token.Statement.{statement}
+use Rattle.fdl_reader.proofs.token.Tie as tie
 
 returns : tie.Need-returns
 unfolding tokenOf
