@@ -1,4 +1,4 @@
-// Acyclic services of DPV1 (document 01, "DPV1"): what calls and answers are, the judgements that their reader and
+// Acyclic services of DPV1 (document 01, "DPV1"): what calls and answers are, the judgments that their reader and
 // their writer share, and the definitions and laws of both ways.
 mod answers;
 mod calls;

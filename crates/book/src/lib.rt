@@ -1,4 +1,4 @@
-// A book of templates (document 01, "A book"): what reading and finding answer, and the judgement that its reader and
+// A book of templates (document 01, "A book"): what reading and finding answer, and the judgment that its reader and
 // its writer share.
 mod answers;
 mod table;

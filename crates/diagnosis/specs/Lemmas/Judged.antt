@@ -1,4 +1,4 @@
--- What is known of a header and blocks that are not refused, from the judgement and back to it.
+-- What is known of a header and blocks that are not refused, from the judgment and back to it.
 use mathlib.Core.Path.{_≡_, refl, ap, _∙_}
 use mathlib.Core.Bool.{true, not}
 use mathlib.Core.List.{List}
