@@ -1,7 +1,6 @@
 // What the bytes in front of DA say: the start byte, and the length bytes of SD2, each refused by a return of its own.
-ghost use Rattle.function_code.specs.Code.{classOf};
-ghost use Rattle.fdl.specs.Reading.{sd2Of, readOf};
-ghost use Rattle.fdl_leading.specs.Leading.{Leads};
+ghost use mathlib.Core.Path.{_≡_};
+ghost use Rattle.fdl_leading.specs.Leading.{sd2Leading, leadingOf};
 use fdl::Format;
 use octets::Refusal;
 
@@ -16,7 +15,7 @@ pub enum Leading {
 
 // The four leading bytes of SD2.
 fn sd2(s: &[u8]) -> Leading
-    ensures { λ r. ⌜ Leads (now (s .entry)) (sd2Of classOf (now (s .entry))) r ⌝ }
+    ensures { λ r. ⌜ r ≡ sd2Leading (now (s .entry)) ⌝ }
 {
     if s.len() < 4 {
         return Leading::Refused(Refusal { number: 1 });
@@ -42,7 +41,7 @@ fn sd2(s: &[u8]) -> Leading
 
 // What the bytes in front of DA say.
 pub fn leading_bytes(s: &[u8]) -> Leading
-    ensures { λ r. ⌜ Leads (now (s .entry)) (readOf (now (s .entry))) r ⌝ }
+    ensures { λ r. ⌜ r ≡ leadingOf (now (s .entry)) ⌝ }
 {
     if s.len() == 0 {
         return Leading::Refused(Refusal { number: 1 });

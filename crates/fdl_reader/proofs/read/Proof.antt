@@ -1,5 +1,5 @@
 -- `fdl_reader::read` meets its contract, by what the leading bytes say.
-use mathlib.Core.Path.{_≡_, ap, _∙_, subst}
+use mathlib.Core.Path.{_≡_, sym, ap, _∙_, subst}
 use Prim.Native.Nat.{ℕ, _≤_}
 use native.Mathlib.Omega.{arith}
 use denote.Ref.{now}
@@ -7,7 +7,7 @@ use Rattle.function_code.specs.Code.{classOf}
 use Rattle.fdl.specs.Reading.{framedOf, readOf}
 use Rattle.fdl.specs.declared.telegram.Format.{Format}
 use Rattle.fdl.specs.declared.telegram.Format.the-variants.{Sd1, Sd2, Sd3}
-use Rattle.fdl_leading.specs.Leading.{placeOf, Leads}
+use Rattle.fdl_leading.specs.Leading.{placeOf, Leads, leads}
 use Rattle.fdl_leading.specs.declared.Leading.{Leading}
 use borrow.Author.Needs.{needs}
 use Rattle.fdl_reader.proofs.read.Statement.{statement}
@@ -18,7 +18,7 @@ entry c = c .before .before
 
 -- what holds of the leading bytes, by their case
 led : (c : tie.After-leading-bytes) {l : Leading} → c .leading-bytes .result ≡ l → let s = now (entry c .args .bytes) in Leads s (readOf s) l
-led c e = let s = now (entry c .args .bytes) in subst (Leads s (readOf s)) e (c .leading-bytes .ensures)
+led c e = let s = now (entry c .args .bytes) in subst (Leads s (readOf s)) (sym (c .leading-bytes .ensures) ∙ e) (leads s)
 
 near : (f : Format) → placeOf f ≤ 4
 near Sd1 = omega arith
