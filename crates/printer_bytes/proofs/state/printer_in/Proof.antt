@@ -1,9 +1,8 @@
 -- `printer_bytes::state::printer_in` meets its contract.
 use denote.Ref.{now}
-use Rattle.printer_bytes.specs.State.{found}
 use mathlib.Core.Path.{sym, ap, _∙_}
-use borrow.Author.Tests.{lt-ltb, le-ltb, le-leb, lt-leb}
-use Rattle.printer_bytes.specs.State.{printerIn}
+use borrow.Author.Tests.{lt-ltb, le-ltb}
+use Rattle.printer_bytes.specs.State.{found, printerIn}
 use borrow.Author.Needs.{needs}
 use Rattle.printer_bytes.proofs.state.printer_in.Statement.{statement}
 use Rattle.printer_bytes.proofs.state.printer_in.Tie as tie
@@ -13,14 +12,14 @@ element-copy-out-if1 c = search needs
 
 returns : tie.Need-returns
 unfolding printerIn
-returns c = simp (lt-leb _ _ (c .if1 .taken), lt-ltb _ _ (c .if1 .taken))
+returns c = simp (lt-ltb _ _ (c .if1 .taken))
 
 element-copy-out-if2 : tie.Need-element-copy-out-if2
 element-copy-out-if2 c = search needs
 
 returns-2 : tie.Need-returns-2
 unfolding printerIn
-returns-2 c = simp (le-leb _ _ (c .before .before .if1 .left), le-ltb _ _ (c .before .before .if1 .left), lt-leb _ _ (c .if2 .taken), lt-ltb _ _ (c .if2 .taken))
+returns-2 c = simp (le-ltb _ _ (c .before .before .if1 .left), lt-ltb _ _ (c .if2 .taken))
 
 element-copy-out-pending-by : tie.Need-element-copy-out-pending-by
 element-copy-out-pending-by c = search needs
@@ -66,7 +65,10 @@ element-copy-out-t44 c = search needs
 
 returns-3 : tie.Need-returns-3
 unfolding printerIn
-returns-3 c = simp (le-leb _ _ (c .before .before .before .before .before .before .before .before .before .before .if1 .left), le-ltb _ _ (c .before .before .before .before .before .before .before .before .before .before .if1 .left), le-leb _ _ (c .before .before .before .before .before .before .before .before .if2 .left), le-ltb _ _ (c .before .before .before .before .before .before .before .before .if2 .left), sym (c .before .before .pending-by .ensures) ∙ c .enum-told .given .1)
+returns-3 c =
+    let k = c .before .before in
+    let i = k .before .before .before .before .before .before in
+    simp (le-ltb _ _ (i .before .before .if1 .left), le-ltb _ _ (i .if2 .left), sym (k .pending-by .ensures) ∙ c .enum-told .given .1)
 
 returns-4 : tie.Need-returns-4
 unfolding printerIn
