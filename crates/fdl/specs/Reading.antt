@@ -60,6 +60,11 @@ tokenOf s =
     (pick (ltb 126 (getD s 1 0)) (refused 7)
     (pick (ltb 126 (getD s 2 0)) (refused 7) (Token (getD s 1 0) (getD s 2 0)))))
 
+-- ---- SD2: LE counts the bytes of DA through the PDU, and says at most this
+
+abbrev pub mostLe : ℕ
+mostLe = 249
+
 -- ---- what depends on the classes of function codes
 
 module _ (classes : ℕ → Class) where
@@ -77,12 +82,12 @@ module _ (classes : ℕ → Class) where
       (pick (not (eqb (getD s (at + pdu + 4) 0) 0x16)) (refused 5)
       (pick (not (eqb (getD s (at + pdu + 3) 0) (checksumOf (take (pdu + 3) (drop at s))))) (refused 6) (fieldsOf s f at pdu))))
 
-  -- SD2 LE LEr SD2, with LE the bytes of DA through the PDU
+  -- SD2 LE LEr SD2
   unfoldable pub sd2Of : List ℕ → Reading
   sd2Of s =
       pick (ltb (length s) 4) (refused 1)
       (pick (ltb (getD s 1 0) 4) (refused 3)
-      (pick (ltb 249 (getD s 1 0)) (refused 3)
+      (pick (ltb mostLe (getD s 1 0)) (refused 3)
       (pick (not (eqb (getD s 2 0) (getD s 1 0))) (refused 3)
       (pick (not (eqb (getD s 3 0) 0x68)) (refused 3) (framedOf s Sd2 4 (getD s 1 0 - 3))))))
 

@@ -10,7 +10,7 @@ use lib.Dec.{eqb, ltb}
 use borrow.Author.Tests.{ltb-false}
 use Rattle.octets.specs.Choice.{pick}
 use Rattle.function_code.specs.Code.{classOf}
-use Rattle.fdl.specs.Reading.{framedOf, tokenOf, sd2Of, readBy, readOf}
+use Rattle.fdl.specs.Reading.{tokenOf, mostLe, framedOf, sd2Of, readBy, readOf}
 use Rattle.fdl.specs.declared.telegram.Format.{Format}
 use Rattle.fdl.specs.declared.telegram.Format.the-variants.{Sd1, Sd2, Sd3}
 use Rattle.fdl.specs.declared.reading.Reading.{Reading}
@@ -26,7 +26,7 @@ unfoldable pub sd2Leading : List ℕ → Leading
 sd2Leading s =
     pick (ltb (length s) 4) (refused 1)
     (pick (ltb (getD s 1 0) 4) (refused 3)
-    (pick (ltb 249 (getD s 1 0)) (refused 3)
+    (pick (ltb mostLe (getD s 1 0)) (refused 3)
     (pick (not (eqb (getD s 2 0) (getD s 1 0))) (refused 3)
     (pick (not (eqb (getD s 3 0) 0x68)) (refused 3) (Framed Sd2 (getD s 1 0 - 3))))))
 
@@ -64,10 +64,10 @@ unfolding sd2Of sd2Leading
 sd2-leads s =
     both (Leads s) (ltb (length s) 4) refl
     (λ _. both (Leads s) (ltb (getD s 1 0) 4) refl
-    (λ _. both (Leads s) (ltb 249 (getD s 1 0)) refl
+    (λ _. both (Leads s) (ltb mostLe (getD s 1 0)) refl
     (λ h. both (Leads s) (not (eqb (getD s 2 0) (getD s 1 0))) refl
     (λ _. both (Leads s) (not (eqb (getD s 3 0) 0x68)) refl
-    (λ _. (refl, omega (arith, ltb-false 249 (getD s 1 0) h)))))))
+    (λ _. (refl, omega (arith, ltb-false mostLe (getD s 1 0) h)))))))
 
 pub leads : (s : List ℕ) → Leads s (readOf s) (leadingOf s)
 unfolding readBy leadingOf

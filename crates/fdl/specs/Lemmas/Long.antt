@@ -11,7 +11,7 @@ use lib.Seq.{take-all, getD-take, length-take-le}
 use lib.Dec.{eqb, ltb}
 use borrow.Author.Tests.{lt-ltb, le-ltb, ne-eqb, ltb-false}
 use Rattle.octets.specs.Choice.{pick}
-use Rattle.fdl.specs.Reading.{refused, framedOf, sd2Of, tokenOf, readBy}
+use Rattle.fdl.specs.Reading.{refused, mostLe, framedOf, sd2Of, tokenOf, readBy}
 use Rattle.function_code.specs.declared.code.Class.{Class}
 use Rattle.fdl.specs.declared.telegram.Format.{Format}
 use Rattle.fdl.specs.declared.telegram.Format.the-variants.{Sd1, Sd2, Sd3}
@@ -20,7 +20,7 @@ use Rattle.fdl.specs.declared.reading.Reading.{Reading}
 overlongSd2 : (le again second : ℕ) → Reading
 overlongSd2 le again second =
     pick (ltb le 4) (refused 3)
-    (pick (ltb 249 le) (refused 3) (pick (not (eqb again le)) (refused 3) (pick (not (eqb second 0x68)) (refused 3) (refused 4))))
+    (pick (ltb mostLe le) (refused 3) (pick (not (eqb again le)) (refused 3) (pick (not (eqb second 0x68)) (refused 3) (refused 4))))
 
 overlong : (start le again second : ℕ) → Reading
 overlong start le again second =
@@ -40,9 +40,9 @@ module _ (classes : ℕ → Class) (s : List ℕ) (h : 255 < length s) where
   unfolding sd2Of overlongSd2
   sd2-long =
       let p : 4 ≤ length s = omega arith in
-      simp (le-ltb _ _ p) (high (ltb 249 (getD s 1 0)) refl)
+      simp (le-ltb _ _ p) (high (ltb mostLe (getD s 1 0)) refl)
     where
-      high : (b : Bool) → ltb 249 (getD s 1 0) ≡ b
+      high : (b : Bool) → ltb mostLe (getD s 1 0) ≡ b
           → pick (ltb (getD s 1 0) 4) (refused 3)
           (pick b (refused 3)
           (pick (not (eqb (getD s 2 0) (getD s 1 0))) (refused 3)
@@ -50,7 +50,7 @@ module _ (classes : ℕ → Class) (s : List ℕ) (h : 255 < length s) where
           ≡ pick (ltb (getD s 1 0) 4) (refused 3)
           (pick b (refused 3) (pick (not (eqb (getD s 2 0) (getD s 1 0))) (refused 3) (pick (not (eqb (getD s 3 0) 0x68)) (refused 3) (refused 4))))
       high true e = refl
-      high false e = simp (framed-long Sd2 4 (getD s 1 0 - 3) (omega arith) (omega (arith, ltb-false 249 (getD s 1 0) e)))
+      high false e = simp (framed-long Sd2 4 (getD s 1 0 - 3) (omega arith) (omega (arith, ltb-false mostLe (getD s 1 0) e)))
 
   token-long : tokenOf s ≡ refused 4
   unfolding tokenOf

@@ -14,7 +14,7 @@ use Rattle.octets.specs.Elements.{part-elements, rest-elements}
 use Rattle.octets.specs.declared.Refusal.{Refusal}
 use Rattle.function_code.specs.Code.{isReserved}
 use Rattle.fdl.specs.Telegram.{checksumOf, sapLength}
-use Rattle.fdl.specs.Reading.{extensionOf, withSource, sourceOf, withDestination, destinationOf, tokenOf, fieldsOf, framedOf, sd2Of, readBy}
+use Rattle.fdl.specs.Reading.{extensionOf, withSource, sourceOf, withDestination, destinationOf, tokenOf, mostLe, fieldsOf, framedOf, sd2Of, readBy}
 use Rattle.fdl.specs.Writing.{startBytes, tokenBytes, confirmationBytes, goodLength}
 use Rattle.fdl.specs.Lemmas.Extends.{Extends, Found, found, reads-extension}
 use Rattle.function_code.specs.declared.code.Class.{Class}
@@ -117,12 +117,12 @@ module _ (classes : ℕ → Class) (s : List ℕ) where
       let le : ℕ = getD s 1 0 in
       by-pick R (ltb (length s) 4) (λ _. refusal)
       (λ a. by-pick R (ltb le 4) (λ _. refusal)
-      (λ b. by-pick R (ltb 249 le) (λ _. refusal)
+      (λ b. by-pick R (ltb mostLe le) (λ _. refusal)
       (λ c. by-pick R (not (eqb (getD s 2 0) le)) (λ _. refusal)
       (λ d. by-pick R (not (eqb (getD s 3 0) 0x68)) (λ _. refusal)
       (λ e.
       let low : 4 ≤ le = ltb-false le 4 b in
-      let high : le - 3 ≤ 246 = omega (arith, ltb-false 249 le c) in
+      let high : le - 3 ≤ 246 = omega (arith, ltb-false mostLe le c) in
       let back : le - 3 + 3 ≡ le = omega arith in
       let again : getD s 2 0 ≡ le = eqb-true _ _ (not-false _ d) in
       let second : getD s 3 0 ≡ 0x68 = eqb-true _ _ (not-false _ e) in
@@ -208,7 +208,7 @@ starts-read classes s Sd2 at pdu starts long =
     let filled : pdu ≡ 0 → ⊥ = eqb-false pdu 0 (not-true _ (and-left (not (eqb pdu 0)) (leb pdu 246) (starts .sized))) in
     let small : pdu ≤ 246 = leb-true pdu 246 (and-right (not (eqb pdu 0)) (leb pdu 246) (starts .sized)) in
     let low : 4 ≤ getD s 1 0 = omega arith in
-    let high : getD s 1 0 ≤ 249 = omega arith in
+    let high : getD s 1 0 ≤ mostLe = omega arith in
     let back : getD s 1 0 - 3 ≡ pdu = omega arith in
     simp (ne-eqb _ _ some, b, le-ltb _ _ size, le-ltb _ _ low, le-ltb _ _ high, eq-eqb _ _ again, eq-eqb _ _ second)
     (ap₂ (framedOf classes s Sd2) (sym four) back)
