@@ -549,6 +549,35 @@ static void controller_places(void)
     CHECK(remembered[RABTUNEX_REPEATS_LEFT] == 2 && remembered[RABTUNEX_POLLS_LEFT] == 4);
 }
 
+/* A refusal with a code 2, which this library's printer never gives: both codes stand in the ending. */
+static void ending_places(void)
+{
+    static const uint8_t small[] = {1, 4, 1, 'A'};
+    static const uint8_t some[RABTUNEX_SETTINGS] = {PRINTER, CONTROLLER, 0, RABTUNEX_POLLS_MIN};
+    uint8_t polled[RABTUNEX_CONTROLLER_STATE] = {RABTUNEX_SENT_POLL, 1, 1, 0, 0};
+    uint8_t fields[RABTUNEX_SERVICE_FIELDS] = {0};
+    uint8_t *own = fields + RABTUNEX_SERVICE_BYTES;
+    uint8_t ending[RABTUNEX_ENDING];
+    size_t got;
+    fields[RABTUNEX_SERVICE] = RABTUNEX_DPV1;
+    fields[RABTUNEX_SERVICE_KIND] = RABTUNEX_SD2;
+    fields[RABTUNEX_SERVICE_DA] = CONTROLLER;
+    fields[RABTUNEX_SERVICE_SA] = PRINTER;
+    fields[RABTUNEX_SERVICE_FC] = RABTUNEX_FC_DATA_LOW;
+    own[RABTUNEX_DPV1_NUMBER] = RABTUNEX_DPV1_NEGATIVE + RABTUNEX_DPV1_WRITE;
+    own[RABTUNEX_DPV1_DECODE] = RABTUNEX_DECODE_DP;
+    own[RABTUNEX_DPV1_CODE1] = RABTUNEX_CODE1_DENIED;
+    own[RABTUNEX_DPV1_CODE2] = 9;
+    CHECK(rabtunex_write_service(fields, RABTUNEX_VERSION_DPV0, zeros, 0, reply, sizeof reply,
+                                 &got) == 0);
+    CHECK(rabtunex_controller_step(some, small, sizeof small, polled, reply, got, out, sizeof out,
+                                   &stored, ending) == 0);
+    CHECK(ending[RABTUNEX_ENDING_KIND] == RABTUNEX_ENDED_REFUSED);
+    CHECK(ending[RABTUNEX_ENDING_TEMPLATE] == 1);
+    CHECK(ending[RABTUNEX_ENDING_CODE1] == RABTUNEX_CODE1_DENIED);
+    CHECK(ending[RABTUNEX_ENDING_CODE2] == 9);
+}
+
 int main(void)
 {
     telegrams();
@@ -567,6 +596,7 @@ int main(void)
     printer();
     printer_places();
     controller_places();
+    ending_places();
     printf("%u checks\n", checks);
     return EXIT_SUCCESS;
 }
