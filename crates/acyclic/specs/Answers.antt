@@ -6,10 +6,10 @@ use lib.Dec.{eqb}
 use Rattle.octets.specs.Choice.{pick}
 use Rattle.octets.specs.Front.{Verdict}
 use Rattle.octets.specs.Fixed.{judged}
-use Rattle.acyclic.specs.Numbers.{readNumber, writeNumber, alarmAckNumber, transportNumber, negativeNumber, answerNumber, allowedInAnswers}
+use Rattle.acyclic.specs.Numbers.{readNumber, writeNumber, alarmAckNumber, transportNumber, failedBy, answerNumber, allowedInAnswers}
 use Rattle.acyclic.specs.Forms.{aloneOf, rangedOf, countedOf, countedAsOf, negativeOf, byNumber, whereAllowed}
-use Rattle.acyclic.specs.declared.numbers.Function.{Function}
-use Rattle.acyclic.specs.declared.numbers.Function.the-variants as function
+use Rattle.acyclic.specs.declared.numbers.Failed.{Failed}
+use Rattle.acyclic.specs.declared.numbers.Failed.the-variants as failed
 use Rattle.acyclic.specs.declared.answers.Answer.{Answer}
 use Rattle.acyclic.specs.declared.answers.Answer.the-variants as answer
 use Rattle.acyclic.specs.declared.answers.AnswerReading.{AnswerReading}
@@ -24,17 +24,11 @@ refused k = reading.Refused (record { number = k })
 abbrev pub answerAt : (start count : ℕ) → Verdict → Answer → AnswerReading
 answerAt start count v x = judged refused v (reading.Answer x start count)
 
--- a negative answer for the function f: decode, code 1 and code 2, and count bytes behind them
-abbrev pub failedOf : Function → (decode code1 code2 count : ℕ) → AnswerReading
-failedOf f decode code1 code2 count = answerAt 4 count (negativeOf decode code1 count) (answer.Negative f decode code1 code2)
-
--- how each negative number is read; one that no answer has is reserved
-unfoldable pub negativeBy : (n a b l count : ℕ) → AnswerReading
-negativeBy n a b l count =
-    pick (eqb n (negativeNumber function.Read)) (failedOf function.Read a b l count)
-    (pick (eqb n (negativeNumber function.Write)) (failedOf function.Write a b l count)
-    (pick (eqb n (negativeNumber function.AlarmAck)) (failedOf function.AlarmAck a b l count)
-    (pick (eqb n (negativeNumber function.Transport)) (failedOf function.Transport a b l count) (refused 28))))
+-- a negative answer for the function that its number names: decode, code 1 and code 2, and count bytes behind them; a number that
+-- names none is reserved
+abbrev pub negativeFor : Failed → (decode code1 code2 count : ℕ) → AnswerReading
+negativeFor (failed.Is f) decode code1 code2 count = answerAt 4 count (negativeOf decode code1 count) (answer.Negative f decode code1 code2)
+negativeFor failed.Nothing decode code1 code2 count = refused 28
 
 -- how each number is read whose answer has four fixed bytes: n, a, b and l, and count bytes behind them
 unfoldable pub fourOf : (n a b l count : ℕ) → AnswerReading
@@ -42,7 +36,7 @@ fourOf n a b l count =
     pick (eqb n readNumber) (answerAt 4 count (countedAsOf l 0 count) (answer.Read a b))
     (pick (eqb n writeNumber) (answerAt 4 count (rangedOf l count) (answer.Write a b l))
     (pick (eqb n alarmAckNumber) (answerAt 4 count (aloneOf count) (answer.AlarmAck a b l))
-    (pick (eqb n transportNumber) (answerAt 4 count (countedAsOf l 0 count) (answer.Transport a b)) (negativeBy n a b l count))))
+    (pick (eqb n transportNumber) (answerAt 4 count (countedAsOf l 0 count) (answer.Transport a b)) (negativeFor (failedBy n) a b l count))))
 
 abbrev pub idleOf : (count : ℕ) → AnswerReading
 idleOf count = answerAt 1 count (aloneOf count) answer.Idle

@@ -1,12 +1,14 @@
 -- Function numbers (document 01, "DPV1"; hexadecimal there, and here beside each number): which number each case has, and
 -- which numbers are allowed in which way.
 use Prim.Native.Nat.{ℕ, _+_}
-use mathlib.Core.Bool.{Bool}
+use mathlib.Core.Bool.{Bool, true, false}
 use mathlib.Core.List.{List, [], _∷_}
 use lib.Dec.{eqb}
-use Rattle.octets.specs.Choice.{_or_}
+use Rattle.octets.specs.Choice.{pick, _or_}
 use Rattle.acyclic.specs.declared.numbers.Function.{Function}
 use Rattle.acyclic.specs.declared.numbers.Function.the-variants as function
+use Rattle.acyclic.specs.declared.numbers.Failed.{Failed}
+use Rattle.acyclic.specs.declared.numbers.Failed.the-variants as failed
 use Rattle.acyclic.specs.declared.calls.Call.{Call}
 use Rattle.acyclic.specs.declared.calls.Call.the-variants as call
 use Rattle.acyclic.specs.declared.answers.Answer.{Answer}
@@ -42,6 +44,14 @@ functionNumber function.Transport = transportNumber
 abbrev pub negativeNumber : Function → ℕ
 negativeNumber f = 128 + functionNumber f
 
+-- the function whose negative answer has this number
+unfoldable pub failedBy : ℕ → Failed
+failedBy n =
+    pick (eqb n (negativeNumber function.Read)) (failed.Is function.Read)
+    (pick (eqb n (negativeNumber function.Write)) (failed.Is function.Write)
+    (pick (eqb n (negativeNumber function.AlarmAck)) (failed.Is function.AlarmAck)
+    (pick (eqb n (negativeNumber function.Transport)) (failed.Is function.Transport) failed.Nothing)))
+
 -- ---- each case
 
 -- a poll is empty, and has none
@@ -67,12 +77,9 @@ abbrev pub allowedInCalls : ℕ → Bool
 allowedInCalls n =
     eqb n readNumber or eqb n writeNumber or eqb n alarmAckNumber or eqb n idleNumber or eqb n transportNumber
 
-abbrev pub isNegative : ℕ → Bool
-isNegative n =
-    eqb n (negativeNumber function.Read)
-    or eqb n (negativeNumber function.Write)
-    or eqb n (negativeNumber function.AlarmAck)
-    or eqb n (negativeNumber function.Transport)
+abbrev pub isFailed : Failed → Bool
+isFailed (failed.Is f) = true
+isFailed failed.Nothing = false
 
 abbrev pub allowedInAnswers : ℕ → Bool
-allowedInAnswers n = allowedInCalls n or isNegative n
+allowedInAnswers n = allowedInCalls n or isFailed (failedBy n)

@@ -1,8 +1,7 @@
-// Acyclic services of DPV1 (document 01, "DPV1"): what calls and answers are, the judgments that their reader and
-// their writer share, and the definitions and laws of both ways.
+// Acyclic services of DPV1 (document 01, "DPV1"): what calls and answers are, and the definitions and laws of both
+// ways. Their code stands in acyclic_forms, acyclic_reader and acyclic_writer.
 mod answers;
 mod calls;
-mod errors;
 mod forms;
 mod numbers;
 
@@ -11,11 +10,5 @@ pub use answers::AnswerReading;
 pub use calls::Call;
 pub use calls::CallReading;
 pub use forms::Check;
-pub use forms::alone;
-pub use forms::counted;
-pub use forms::counted_as;
-pub use forms::negative;
-pub use forms::ranged;
+pub use numbers::Failed;
 pub use numbers::Function;
-pub use numbers::allowed_in_answers;
-pub use numbers::allowed_in_calls;

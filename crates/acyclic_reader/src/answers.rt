@@ -1,16 +1,18 @@
 // Reading answers.
 ghost use mathlib.Core.Path.{_≡_};
 ghost use Rattle.acyclic.specs.Forms.{verdictIn};
-ghost use Rattle.acyclic.specs.Answers.{answerAt, failedOf, negativeBy, fourOf, readAnswerOf};
+ghost use Rattle.acyclic.specs.Numbers.{failedBy};
+ghost use Rattle.acyclic.specs.Answers.{answerAt, negativeFor, fourOf, readAnswerOf};
 use acyclic::Answer;
 use acyclic::AnswerReading;
 use acyclic::Check;
-use acyclic::Function;
-use acyclic::allowed_in_answers;
-use acyclic::alone;
-use acyclic::counted_as;
-use acyclic::negative;
-use acyclic::ranged;
+use acyclic::Failed;
+use acyclic_forms::allowed_in_answers;
+use acyclic_forms::alone;
+use acyclic_forms::counted_as;
+use acyclic_forms::failed_by;
+use acyclic_forms::negative;
+use acyclic_forms::ranged;
 use octets::Refusal;
 
 // The answer with count bytes from start, if the check on it let it stand.
@@ -27,30 +29,23 @@ fn answer_at(start: usize, count: usize, check: Check, answer: Answer) -> Answer
     }
 }
 
-// The negative answer for a function, with count bytes behind it.
-fn failed(function: Function, decode: u8, code1: u8, code2: u8, count: usize) -> AnswerReading
-    ensures { λ r. ⌜ r ≡ failedOf function decode code1 code2 count ⌝ }
-{
-    let answer = Answer::Negative {
-        function,
-        decode,
-        code1,
-        code2,
-    };
-    answer_at(4, count, negative(decode, code1, count), answer)
-}
-
 // The negative answer that a number has, with count bytes behind it. A number that none has is
 // reserved.
 fn negative_by(number: u8, decode: u8, code1: u8, code2: u8, count: usize) -> AnswerReading
-    ensures { λ r. ⌜ r ≡ negativeBy number decode code1 code2 count ⌝ }
+    ensures { λ r. ⌜ r ≡ negativeFor (failedBy number) decode code1 code2 count ⌝ }
 {
-    match number {
-        0xDE => failed(Function::Read, decode, code1, code2, count),
-        0xDF => failed(Function::Write, decode, code1, code2, count),
-        0xDC => failed(Function::AlarmAck, decode, code1, code2, count),
-        0xD1 => failed(Function::Transport, decode, code1, code2, count),
-        _ => AnswerReading::Refused(Refusal { number: 28 }),
+    let failed = failed_by(number);
+    match failed {
+        Failed::Is(function) => {
+            let answer = Answer::Negative {
+                function,
+                decode,
+                code1,
+                code2,
+            };
+            answer_at(4, count, negative(decode, code1, count), answer)
+        }
+        Failed::Nothing => AnswerReading::Refused(Refusal { number: 28 }),
     }
 }
 

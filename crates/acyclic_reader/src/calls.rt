@@ -5,10 +5,10 @@ ghost use Rattle.acyclic.specs.Calls.{callAt, fourOf, readCallOf};
 use acyclic::Call;
 use acyclic::CallReading;
 use acyclic::Check;
-use acyclic::allowed_in_calls;
-use acyclic::alone;
-use acyclic::counted_as;
-use acyclic::ranged;
+use acyclic_forms::allowed_in_calls;
+use acyclic_forms::alone;
+use acyclic_forms::counted_as;
+use acyclic_forms::ranged;
 use octets::Refusal;
 
 // The call with count bytes from start, if the check on it let it stand.

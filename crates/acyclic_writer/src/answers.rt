@@ -7,11 +7,11 @@ use crate::forms::Front;
 use crate::forms::write_bare;
 use crate::forms::write_counted;
 use crate::forms::write_four;
-use crate::numbers::negative_number;
 use acyclic::Answer;
-use acyclic::alone;
-use acyclic::negative;
-use acyclic::ranged;
+use acyclic_forms::alone;
+use acyclic_forms::negative;
+use acyclic_forms::negative_number;
+use acyclic_forms::ranged;
 use octets::Written;
 
 // Writes an answer from its fields and its data.

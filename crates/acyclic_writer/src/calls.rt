@@ -8,8 +8,8 @@ use crate::forms::write_bare;
 use crate::forms::write_counted;
 use crate::forms::write_four;
 use acyclic::Call;
-use acyclic::alone;
-use acyclic::ranged;
+use acyclic_forms::alone;
+use acyclic_forms::ranged;
 use octets::Written;
 
 // Writes a call from its fields and its data.

@@ -7,7 +7,7 @@ ghost use Rattle.octets.specs.Front.{AtFront, fine, answerBy, heldBy};
 ghost use Rattle.acyclic.specs.Forms.{verdictIn, aloneOf, countedOf, four};
 ghost use Rattle.acyclic_writer.specs.Forms.{frontBytes};
 use acyclic::Check;
-use acyclic::counted;
+use acyclic_forms::counted;
 use octets::Written;
 
 // The four bytes in front of all but idle and poll, in turn: the function number and three more.

@@ -2,7 +2,6 @@
 mod answers;
 mod calls;
 mod forms;
-mod numbers;
 
 pub use answers::write_answer;
 pub use calls::write_call;

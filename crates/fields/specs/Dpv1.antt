@@ -4,9 +4,9 @@ use Prim.Native.Nat.{ℕ}
 use mathlib.Core.List.{List, [], _∷_}
 use lib.Dec.{eqb}
 use Rattle.octets.specs.Choice.{pick}
-use Rattle.acyclic.specs.Numbers.{readNumber, writeNumber, alarmAckNumber, idleNumber, transportNumber, negativeNumber}
-use Rattle.acyclic.specs.declared.numbers.Function.{Function}
-use Rattle.acyclic.specs.declared.numbers.Function.the-variants as function
+use Rattle.acyclic.specs.Numbers.{readNumber, writeNumber, alarmAckNumber, idleNumber, transportNumber, negativeNumber, failedBy}
+use Rattle.acyclic.specs.declared.numbers.Failed.{Failed}
+use Rattle.acyclic.specs.declared.numbers.Failed.the-variants as failed
 use Rattle.acyclic.specs.declared.calls.Call.{Call}
 use Rattle.acyclic.specs.declared.calls.Call.the-variants as call
 use Rattle.acyclic.specs.declared.answers.Answer.{Answer}
@@ -48,15 +48,10 @@ callNamed n a b c =
     (pick (eqb n alarmAckNumber) (case.Call (call.AlarmAck a b c))
     (pick (eqb n idleNumber) (case.Call call.Idle) (pick (eqb n transportNumber) (case.Call (call.Transport a b)) case.Unknown)))))
 
-abbrev pub failedOf : Function → (decode code1 code2 : ℕ) → Case
-failedOf f decode code1 code2 = case.Answer (answer.Negative f decode code1 code2)
-
-unfoldable pub negativeNamed : (n a b c : ℕ) → Case
-negativeNamed n a b c =
-    pick (eqb n (negativeNumber function.Read)) (failedOf function.Read a b c)
-    (pick (eqb n (negativeNumber function.Write)) (failedOf function.Write a b c)
-    (pick (eqb n (negativeNumber function.AlarmAck)) (failedOf function.AlarmAck a b c)
-    (pick (eqb n (negativeNumber function.Transport)) (failedOf function.Transport a b c) case.Unknown)))
+-- a negative answer for the function that its number names
+abbrev pub negativeNamed : Failed → (decode code1 code2 : ℕ) → Case
+negativeNamed (failed.Is f) decode code1 code2 = case.Answer (answer.Negative f decode code1 code2)
+negativeNamed failed.Nothing decode code1 code2 = case.Unknown
 
 unfoldable pub answerNamed : (n a b c : ℕ) → Case
 answerNamed n a b c =
@@ -64,4 +59,4 @@ answerNamed n a b c =
     (pick (eqb n writeNumber) (case.Answer (answer.Write a b c))
     (pick (eqb n alarmAckNumber) (case.Answer (answer.AlarmAck a b c))
     (pick (eqb n idleNumber) (case.Answer answer.Idle)
-    (pick (eqb n transportNumber) (case.Answer (answer.Transport a b)) (negativeNamed n a b c)))))
+    (pick (eqb n transportNumber) (case.Answer (answer.Transport a b)) (negativeNamed (failedBy n) a b c)))))

@@ -1,10 +1,12 @@
 // The first four fields of DPV1 calls and answers, and what such fields name.
 ghost use mathlib.Core.Path.{_≡_};
-ghost use Rattle.acyclic.specs.Numbers.{negativeNumber};
-ghost use Rattle.fields.specs.Dpv1.{fourBytes, callFour, answerFour, callNamed, failedOf, negativeNamed, answerNamed};
+ghost use Rattle.acyclic.specs.Numbers.{failedBy};
+ghost use Rattle.fields.specs.Dpv1.{fourBytes, callFour, answerFour, callNamed, negativeNamed, answerNamed};
 use acyclic::Answer;
 use acyclic::Call;
-use acyclic::Function;
+use acyclic::Failed;
+use acyclic_forms::failed_by;
+use acyclic_forms::negative_number;
 
 // The first four fields: the number, and three that each case has its own use for.
 pub struct Four(pub u8, pub u8, pub u8, pub u8);
@@ -29,18 +31,6 @@ pub fn call_four(call: Call) -> Four
         } => Four(0x5C, slot, alarm, specifier),
         Call::Idle => Four(0x48, 0, 0, 0),
         Call::Transport { slot, index } => Four(0x51, slot, index, 0),
-    }
-}
-
-// The number of a function's negative answer: its own plus 80 hex.
-fn negative_number(function: Function) -> u8
-    ensures { λ r. ⌜ r ≡ negativeNumber function ⌝ }
-{
-    match function {
-        Function::Read => 0xDE,
-        Function::Write => 0xDF,
-        Function::AlarmAck => 0xDC,
-        Function::Transport => 0xD1,
     }
 }
 
@@ -102,28 +92,19 @@ pub fn call_named(number: u8, slot: u8, index: u8, last: u8) -> Case
     }
 }
 
-// A negative answer for a function.
-fn failed(function: Function, decode: u8, code1: u8, code2: u8) -> Case
-    ensures { λ r. ⌜ r ≡ failedOf function decode code1 code2 ⌝ }
-{
-    Case::Answer(Answer::Negative {
-        function,
-        decode,
-        code1,
-        code2,
-    })
-}
-
 // What a number names in an answer that no positive one has.
 fn negative_named(number: u8, decode: u8, code1: u8, code2: u8) -> Case
-    ensures { λ r. ⌜ r ≡ negativeNamed number decode code1 code2 ⌝ }
+    ensures { λ r. ⌜ r ≡ negativeNamed (failedBy number) decode code1 code2 ⌝ }
 {
-    match number {
-        0xDE => failed(Function::Read, decode, code1, code2),
-        0xDF => failed(Function::Write, decode, code1, code2),
-        0xDC => failed(Function::AlarmAck, decode, code1, code2),
-        0xD1 => failed(Function::Transport, decode, code1, code2),
-        _ => Case::Unknown,
+    let failed = failed_by(number);
+    match failed {
+        Failed::Is(function) => Case::Answer(Answer::Negative {
+            function,
+            decode,
+            code1,
+            code2,
+        }),
+        Failed::Nothing => Case::Unknown,
     }
 }
 

@@ -15,6 +15,7 @@ use Rattle.diagnosis.specs.Reading as diagnosis
 use Rattle.diagnosis.specs.Reading.{goodStatus1, goodStatus2, goodMaster, blocksIn, extDiagAgrees, judge}
 use Rattle.access.specs.Route.{kindOf, headerOf, routeOf}
 use Rattle.access.specs.Table.{services, look, rowAt}
+use Rattle.acyclic.specs.Numbers.{failedBy}
 use Rattle.acyclic.specs.Answers as answers
 use Rattle.acyclic.specs.Calls as calls
 use Rattle.acyclic.specs.Errors.{namedIn, goodCode1}
@@ -117,7 +118,7 @@ pub record Rows : Type 0 where
   pub kept : slot7 true ≡ record { len = 0; bytes = replicate 200 0 }
 
 pub worked-download : Rows
-unfolding line.run line.transcript partOf classOf extensionOf sourceOf destinationOf tokenOf fieldsOf framedOf sd2Of readBy checksumOf coreOf telegramOf goodCode channelOf foundBy goodStatus1 goodStatus2 goodMaster blocksIn extDiagAgrees judge diagnosis.readOf kindOf headerOf routeOf services look rowAt answers.readAnswerOf answers.fourOf answers.negativeBy calls.readCallOf calls.fourOf namedIn goodCode1 aloneOf rangedOf countedOf countedAsOf negativeOf byNumber whereAllowed emptyOf callOf answerOf bytesFor readOf telegramFor heldBehind printer-step.judge askIn receivedOf hear gotIn moveOf download settingsVerdict lineVerdict verdictOf printer-step.verdictOf book.readOf book.bodiesBy tableOf pairOf goodPair
+unfolding line.run line.transcript partOf classOf extensionOf sourceOf destinationOf tokenOf fieldsOf framedOf sd2Of readBy checksumOf coreOf telegramOf goodCode channelOf foundBy goodStatus1 goodStatus2 goodMaster blocksIn extDiagAgrees judge diagnosis.readOf kindOf headerOf routeOf services look rowAt answers.readAnswerOf answers.fourOf failedBy calls.readCallOf calls.fourOf namedIn goodCode1 aloneOf rangedOf countedOf countedAsOf negativeOf byNumber whereAllowed emptyOf callOf answerOf bytesFor readOf telegramFor heldBehind printer-step.judge askIn receivedOf hear gotIn moveOf download settingsVerdict lineVerdict verdictOf printer-step.verdictOf book.readOf book.bodiesBy tableOf pairOf goodPair
 worked-download =
     record {
       taken = by;

@@ -5,14 +5,17 @@ use mathlib.Core.Bool.{true, false}
 use mathlib.Core.List.{List, _++_}
 use lib.ListN.{length, getD}
 use lib.Dec.{eqb}
+use Rattle.octets.specs.Choice.{by-pick}
 use Rattle.octets.specs.Front.{Verdict}
-use Rattle.acyclic.specs.Numbers.{readNumber, writeNumber, alarmAckNumber, idleNumber, transportNumber, negativeNumber, allowedInAnswers}
+use Rattle.acyclic.specs.Numbers.{readNumber, writeNumber, alarmAckNumber, idleNumber, transportNumber, negativeNumber, failedBy, allowedInAnswers}
 use Rattle.acyclic.specs.Forms.{four}
-use Rattle.acyclic.specs.Answers.{refused, answerAt, negativeBy, fourOf, idleOf, readAnswerOf, fixedBytes, bytesFor, verdictOf, verdictFor}
+use Rattle.acyclic.specs.Answers.{refused, answerAt, negativeFor, fourOf, idleOf, readAnswerOf, fixedBytes, bytesFor, verdictOf, verdictFor}
 use Rattle.acyclic.specs.Lemmas.Forms.{counted-itself, read-four, read-idle}
 use Rattle.acyclic.specs.Lemmas.Again.{Again, Way, idle-again, plain-again, counted-again, by-reading}
 use Rattle.acyclic.specs.declared.numbers.Function.{Function}
 use Rattle.acyclic.specs.declared.numbers.Function.the-variants as function
+use Rattle.acyclic.specs.declared.numbers.Failed.{Failed}
+use Rattle.acyclic.specs.declared.numbers.Failed.the-variants as failed
 use Rattle.acyclic.specs.declared.answers.Answer.{Answer}
 use Rattle.acyclic.specs.declared.answers.Answer.the-variants as answer
 use Rattle.acyclic.specs.declared.answers.AnswerReading.{AnswerReading}
@@ -28,7 +31,7 @@ of-four = read-four refused (refused 20) allowedInAnswers idleOf fourOf
 -- an answer is read by the verdict on its fields
 pub alike : (x : Answer) (part : List ℕ)
     → readAnswerOf (bytesFor x part) ≡ answerAt (length (fixedBytes x (length part))) (length part) (verdictFor x part) x
-unfolding negativeBy fourOf readAnswerOf
+unfolding failedBy fourOf readAnswerOf
 alike (answer.Read slot index) part =
     of-four readNumber slot index (length part) part refl refl
     ∙ ap (λ (v : Verdict). answerAt 4 (length part) v (answer.Read slot index)) (counted-itself 0 (length part))
@@ -62,17 +65,21 @@ answers s =
     }
 
 module _ (s : List ℕ) where
-  negative-again : 4 ≤ length s → AgainIn s (negativeBy (getD s 0 0) (getD s 1 0) (getD s 2 0) (getD s 3 0) (length s - 4))
-  unfolding negativeBy
+  -- of the function that the number names
+  failed-again : 4 ≤ length s → (f : Function) → eqb (getD s 0 0) (negativeNumber f) ≡ true
+      → AgainIn s (negativeFor (failed.Is f) (getD s 1 0) (getD s 2 0) (getD s 3 0) (length s - 4))
+  failed-again long f e =
+      rw e at (plain-again (answers s) long {n = negativeNumber f} (refused 28) tt (answer.Negative f (getD s 1 0) (getD s 2 0) (getD s 3 0)) refl)
+
+  negative-again : 4 ≤ length s → AgainIn s (negativeFor (failedBy (getD s 0 0)) (getD s 1 0) (getD s 2 0) (getD s 3 0) (length s - 4))
+  unfolding failedBy
   negative-again long =
-      let x : Function → Answer = λ f. answer.Negative f (getD s 1 0) (getD s 2 0) (getD s 3 0) in
-      plain-again (answers s) long {n = negativeNumber function.Read} _
-      (plain-again (answers s) long {n = negativeNumber function.Write} _
-      (plain-again (answers s) long {n = negativeNumber function.AlarmAck} _
-      (plain-again (answers s) long {n = negativeNumber function.Transport} _ tt (x function.Transport) refl)
-      (x function.AlarmAck) refl)
-      (x function.Write) refl)
-      (x function.Read) refl
+      let R : Failed → Type 0 = λ x. AgainIn s (negativeFor x (getD s 1 0) (getD s 2 0) (getD s 3 0) (length s - 4)) in
+      let n = getD s 0 0 in
+      by-pick R (eqb n (negativeNumber function.Read)) (failed-again long function.Read)
+      (λ _. by-pick R (eqb n (negativeNumber function.Write)) (failed-again long function.Write)
+      (λ _. by-pick R (eqb n (negativeNumber function.AlarmAck)) (failed-again long function.AlarmAck)
+      (λ _. by-pick R (eqb n (negativeNumber function.Transport)) (failed-again long function.Transport) (λ _. tt))))
 
   four-again : 4 ≤ length s → AgainIn s (fourOf (getD s 0 0) (getD s 1 0) (getD s 2 0) (getD s 3 0) (length s - 4))
   unfolding fourOf
