@@ -61,25 +61,11 @@ pub extern "C" fn rabtunex_read_telegram(bytes: &[u8], fields: &mut [u8; 8]) -> 
     let reading = fdl_reader::read(bytes);
     match reading {
         Reading::Confirmation => {
-            let none = Header {
-                da: 0,
-                sa: 0,
-                fc: 0,
-                dsap: Sap::Absent,
-                ssap: Sap::Absent,
-            };
-            put_fields(0, none, 0, 0, fields);
+            *fields = [0, 0, 0, 0, 255, 255, 0, 0];
             0
         }
         Reading::Token { da, sa } => {
-            let addresses = Header {
-                da,
-                sa,
-                fc: 0,
-                dsap: Sap::Absent,
-                ssap: Sap::Absent,
-            };
-            put_fields(1, addresses, 0, 0, fields);
+            *fields = [1, da, sa, 0, 255, 255, 0, 0];
             0
         }
         Reading::Telegram {

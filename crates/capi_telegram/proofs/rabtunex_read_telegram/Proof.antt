@@ -33,14 +33,8 @@ read-requires c κs = search needs
 enum-told : tie.Need-enum-told
 enum-told c = search needs
 
-put-fields-requires : tie.Need-put-fields-requires
-put-fields-requires c κs = search needs
-
 enum-known-reading : tie.Need-enum-known-reading
 enum-known-reading c = search needs
-
-put-fields-requires-2 : tie.Need-put-fields-requires-2
-put-fields-requires-2 c κs = search needs
 
 enum-known-reading-2 : tie.Need-enum-known-reading-2
 enum-known-reading-2 c = search needs
@@ -54,25 +48,25 @@ cast-put-fields c = omega (arith, inside c)
 cast-put-fields-2 : tie.Need-cast-put-fields-2
 cast-put-fields-2 c = omega (arith, inside c)
 
-put-fields-requires-3 : tie.Need-put-fields-requires-3
-put-fields-requires-3 c κs = search needs
+put-fields-requires : tie.Need-put-fields-requires
+put-fields-requires c κs = search needs
 
 enum-known-reading-3 : tie.Need-enum-known-reading-3
 enum-known-reading-3 c = search needs
 
 returns : tie.Need-returns
 returns c =
-    let t = c .before .before in
+    let t = c .before in
     let r = t .before .before in
     let a = r .before .before .args in
-    answered (a .bytes .now) (a .fields .now) _ (sym (r .read .ensures) ∙ t .enum-told .given .1) (c .put-fields .ensures)
+    answered (a .bytes .now) (a .fields .now) _ (sym (r .read .ensures) ∙ t .enum-told .given .1) refl
 
 returns-2 : tie.Need-returns-2
 returns-2 c =
-    let t = c .before .before .before in
+    let t = c .before .before in
     let r = t .before .before in
     let a = r .before .before .args in
-    answered (a .bytes .now) (a .fields .now) _ (sym (r .read .ensures) ∙ t .reading .given .1) (c .put-fields2 .ensures)
+    answered (a .bytes .now) (a .fields .now) _ (sym (r .read .ensures) ∙ t .reading .given .1) refl
 
 returns-3 : tie.Need-returns-3
 returns-3 c =
@@ -83,7 +77,7 @@ returns-3 c =
     let g = t .reading2 .given .0 in
     let h = g .1 .0 in
     answered (a .bytes .now) (a .fields .now) _ (sym (r .read .ensures) ∙ t .reading2 .given .1)
-    (c .put-fields3 .ensures
+    (c .put-fields .ensures
     ∙ ap (λ (x : ℕ). x ∷ h .da ∷ h .sa ∷ h .fc ∷ sapNumber (h .dsap) ∷ sapNumber (h .ssap) ∷ g .1 .1 .0 ∷ g .1 .1 .1 .0 ∷ []) (n .format-number .ensures))
 
 returns-4 : tie.Need-returns-4
@@ -99,14 +93,12 @@ rabtunex-read-telegram-spec =
     (tie.spec
     read-requires
     enum-told
-    put-fields-requires
     enum-known-reading
-    put-fields-requires-2
     enum-known-reading-2
     format-number-requires
     cast-put-fields
     cast-put-fields-2
-    put-fields-requires-3
+    put-fields-requires
     enum-known-reading-3
     returns
     returns-2
