@@ -1,9 +1,7 @@
-// Typed values: a code byte and the bytes of a value, high byte first (document 01, "Typed values"). They
-// are read here, and written in the crate typed_writer.
+// Typed values: a code byte and the bytes of a value, high byte first (document 01, "Typed values"): what they are, and the
+// definitions and laws of both ways.
 mod reading;
-mod signed;
 mod value;
 
 pub use reading::Reading;
-pub use reading::read;
 pub use value::Value;

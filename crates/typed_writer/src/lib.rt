@@ -1,5 +1,4 @@
-// Writing typed values (document 01, "Typed values"), held to the definitions of the crate typed, which
-// reads them.
+// Writing typed values (document 01, "Typed values"), held to the definitions of the crate typed.
 mod signed;
 mod writing;
 

@@ -93,7 +93,7 @@ fn value_words(value: Value) {
 }
 
 pub(crate) fn typed_line(bytes: &[u8], out: &mut [u8]) {
-    match typed::read(bytes) {
+    match typed_reader::read(bytes) {
         Reading::Refused(refusal) => {
             refused(refusal);
             text(b"\n");
@@ -123,7 +123,7 @@ fn boolean_fields(byte: u8, out: &mut [u8]) {
 
 // An integer, which any bytes are.
 fn integer_fields(bytes: &[u8], out: &mut [u8]) {
-    match typed::read(bytes) {
+    match typed_reader::read(bytes) {
         Reading::Value(value) => written_value(value, out),
         Reading::Refused(_) => malformed(),
     }

@@ -1,7 +1,7 @@
--- `typed::reading::good_code` meets its contract: both bounds are tested.
+-- `typed_reader::reading::good_code` meets its contract: both bounds are tested.
 use borrow.Author.Tests.{eq-eqb, ne-eqb}
-use Rattle.typed.proofs.reading.good_code.Statement.{statement}
-use Rattle.typed.proofs.reading.good_code.Tie as tie
+use Rattle.typed_reader.proofs.reading.good_code.Statement.{statement}
+use Rattle.typed_reader.proofs.reading.good_code.Tie as tie
 
 returns : tie.Need-returns
 returns c = simp (eq-eqb _ _ (c .if1 .taken))

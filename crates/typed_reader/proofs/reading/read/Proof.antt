@@ -1,4 +1,4 @@
--- `typed::reading::read` meets its contract. The definition has the same tests in the same order.
+-- `typed_reader::reading::read` meets its contract. The definition has the same tests in the same order.
 use mathlib.Core.Path.{_≡_, sym, ap, _∙_}
 use mathlib.Core.Bool.{false, not}
 use mathlib.Core.List.{List}
@@ -9,11 +9,11 @@ use lib.Dec.{eqb}
 use denote.Ref.{now}
 use borrow.Author.Needs.{needs}
 use borrow.Author.Tests.{eq-eqb, ne-eqb}
 use Rattle.typed.specs.Value.{one, two, four, Kind, boolean, signed, unsigned, floating, kindOf, widthIn, widthOf}
 use Rattle.typed.specs.Reading.{goodCode, readOf}
 use Rattle.typed.specs.declared.reading.Reading.the-variants.{Value}
-use Rattle.typed.proofs.reading.read.Statement.{statement}
-use Rattle.typed.proofs.reading.read.Tie as tie
+use Rattle.typed_reader.proofs.reading.read.Statement.{statement}
+use Rattle.typed_reader.proofs.reading.read.Tie as tie
 
 -- a value has one byte at least, and four at most
 bounds : (k : Kind) → (1 ≤ widthIn k) × (widthIn k ≤ 4)

@@ -1,9 +1,9 @@
--- `typed::reading::float` meets its contract: each case is handed on.
+-- `typed_reader::reading::float` meets its contract: each case is handed on.
 use mathlib.Core.Path.{sym, _∙_}
 use borrow.Author.Needs.{needs}
 use Rattle.typed.specs.Value.{valueOf}
-use Rattle.typed.proofs.reading.float.Statement.{statement}
-use Rattle.typed.proofs.reading.float.Tie as tie
+use Rattle.typed_reader.proofs.reading.float.Statement.{statement}
+use Rattle.typed_reader.proofs.reading.float.Tie as tie
 
 floating-of-requires : tie.Need-floating-of-requires
 floating-of-requires c κs = search needs

@@ -1,10 +1,10 @@
--- `typed::reading::long` meets its contract: all that is behind the code is four bytes.
+-- `typed_reader::reading::long` meets its contract: all that is behind the code is four bytes.
 use mathlib.Core.Path.{sym, ap, _∙_}
 use borrow.Author.Needs.{needs}
 use Rattle.octets.specs.Elements.{rest-elements}
 use Rattle.octets.specs.Number.{numberOf}
-use Rattle.typed.proofs.reading.long.Statement.{statement}
-use Rattle.typed.proofs.reading.long.Tie as tie
+use Rattle.typed_reader.proofs.reading.long.Statement.{statement}
+use Rattle.typed_reader.proofs.reading.long.Tie as tie
 
 shared-slice-read-join32 : tie.Need-shared-slice-read-join32
 shared-slice-read-join32 c = search needs

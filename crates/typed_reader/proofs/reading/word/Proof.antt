@@ -1,10 +1,10 @@
--- `typed::reading::word` meets its contract: all that is behind the code is two bytes.
+-- `typed_reader::reading::word` meets its contract: all that is behind the code is two bytes.
 use mathlib.Core.Path.{sym, ap, _∙_}
 use borrow.Author.Needs.{needs}
 use Rattle.octets.specs.Elements.{rest-elements}
 use Rattle.octets.specs.Number.{numberOf}
-use Rattle.typed.proofs.reading.word.Statement.{statement}
-use Rattle.typed.proofs.reading.word.Tie as tie
+use Rattle.typed_reader.proofs.reading.word.Statement.{statement}
+use Rattle.typed_reader.proofs.reading.word.Tie as tie
 
 shared-slice-read-join16 : tie.Need-shared-slice-read-join16
 shared-slice-read-join16 c = search needs

@@ -1,7 +1,7 @@
--- `typed::reading::good_boolean` meets its contract. The definition has the same tests in the same order.
+-- `typed_reader::reading::good_boolean` meets its contract. The definition has the same tests in the same order.
 use borrow.Author.Tests.{eq-eqb, ne-eqb}
-use Rattle.typed.proofs.reading.good_boolean.Statement.{statement}
-use Rattle.typed.proofs.reading.good_boolean.Tie as tie
+use Rattle.typed_reader.proofs.reading.good_boolean.Statement.{statement}
+use Rattle.typed_reader.proofs.reading.good_boolean.Tie as tie
 
 returns : tie.Need-returns
 returns c = simp (ne-eqb _ _ (c .if1 .taken))

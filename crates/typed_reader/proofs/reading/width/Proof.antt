@@ -1,12 +1,12 @@
--- `typed::reading::width` meets its contract: each arm answers the width of its codes.
+-- `typed_reader::reading::width` meets its contract: each arm answers the width of its codes.
 use mathlib.Core.Path.{_≡_, refl, sym}
 use mathlib.Core.Bool.{Bool, true, false}
 use lib.Dec.{eqb}
 use borrow.Author.Tests.{ne-eqb}
 use Rattle.octets.specs.Choice.{pick}
 use Rattle.typed.specs.Value.{four, unsigned, floating, kindOf, widthIn}
-use Rattle.typed.proofs.reading.width.Statement.{statement}
-use Rattle.typed.proofs.reading.width.Tie as tie
+use Rattle.typed_reader.proofs.reading.width.Statement.{statement}
+use Rattle.typed_reader.proofs.reading.width.Tie as tie
 
 -- the last two codes have the same width
 last : (b : Bool) → widthIn (pick b (unsigned four) floating) ≡ 4

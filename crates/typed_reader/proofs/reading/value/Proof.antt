@@ -1,4 +1,4 @@
--- `typed::reading::value` meets its contract: each arm makes the value of its code.
+-- `typed_reader::reading::value` meets its contract: each arm makes the value of its code.
 use mathlib.Core.Path.{_≡_, sym, ap, ap₂, _∙_}
 use Prim.Native.Nat.{ℕ, _+_}
 use native.Mathlib.Omega.{arith}
@@ -8,12 +8,12 @@ use mir.Syntax.{w8, w16, w32}
 use borrow.Author.Needs.{needs}
 use borrow.Author.Tests.{ne-eqb}
 use Rattle.octets.specs.Number.{numberOf}
 use Rattle.typed.specs.Value.{Kind, floating, kindOf, widthIn, widthOf, valueOf}
 use Rattle.typed.specs.Lemmas.Again.{single}
 use Rattle.typed.specs.declared.value.Value.the-variants.{I8, I16, I32}
 use Rattle.typed.specs.Lemmas.Complement.{into}
-use Rattle.typed.proofs.reading.value.Statement.{statement}
-use Rattle.typed.proofs.reading.value.Tie as tie
+use Rattle.typed_reader.proofs.reading.value.Statement.{statement}
+use Rattle.typed_reader.proofs.reading.value.Tie as tie
 
 -- the number of the bytes behind the code
 abbrev numberAt : tie.Start → ℕ
