@@ -12,9 +12,9 @@ use Rattle.acyclic.specs.declared.calls.CallReading.{CallReading}
 use Rattle.acyclic.specs.declared.calls.CallReading.the-variants as call-reading
 use Rattle.acyclic.specs.declared.answers.AnswerReading.{AnswerReading}
 use Rattle.acyclic.specs.declared.answers.AnswerReading.the-variants as answer-reading
-use Rattle.fields.specs.Dpv1.{callFour, answerFour, callNamed, answerNamed}
-use Rattle.fields.specs.declared.dpv1.Case.{Case}
-use Rattle.fields.specs.declared.dpv1.Case.the-variants as case
+use Rattle.acyclic_fields.specs.Four.{callFour, answerFour, callNamed, answerNamed}
+use Rattle.acyclic_fields.specs.declared.four.Case.{Case}
+use Rattle.acyclic_fields.specs.declared.four.Case.the-variants as case
 
 -- start and length of the data behind them
 abbrev pub allFields : (four : List ℕ) (start len : ℕ) → List ℕ

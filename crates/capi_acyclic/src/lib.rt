@@ -7,7 +7,7 @@ ghost use Rattle.fields.specs.Outcome.{statusOf, countAfter};
 ghost use Rattle.capi_acyclic.specs.Acyclic.{callRefusal, answerRefusal, callAfter, answerAfter, callIn, answerIn, answerOf, heldOf};
 use acyclic::AnswerReading;
 use acyclic::CallReading;
-use fields::Case;
+use acyclic_fields::Case;
 use fields::store_count;
 
 // Reads a call into its fields.
@@ -19,7 +19,7 @@ pub extern "C" fn rabtunex_read_dpv1_call(bytes: &[u8], fields: &mut [u8; 6]) ->
     let reading = acyclic_reader::read_call(bytes);
     match reading {
         CallReading::Call { call, start, len } => {
-            let call = fields::call_four(call);
+            let call = acyclic_fields::call_four(call);
             *fields = [call.0, call.1, call.2, call.3, start as u8, len as u8];
             0
         }
@@ -36,7 +36,7 @@ pub extern "C" fn rabtunex_read_dpv1_answer(bytes: &[u8], fields: &mut [u8; 6]) 
     let reading = acyclic_reader::read_answer(bytes);
     match reading {
         AnswerReading::Answer { answer, start, len } => {
-            let answer = fields::answer_four(answer);
+            let answer = acyclic_fields::answer_four(answer);
             *fields = [
                 answer.0,
                 answer.1,
@@ -79,7 +79,7 @@ pub extern "C" fn rabtunex_write_dpv1_call(
     ensures bytes { λ _. ⌜ now (out .exit) ≡ heldOf (callIn (now (fields .entry))) (now (part .entry)) (now (out .entry)) ⌝ }
     ensures count { λ _. ⌜ now (stored .exit) ≡ countAfter (answerOf (callIn (now (fields .entry))) (now (part .entry)) (length (now (out .entry)))) (now (stored .entry)) ⌝ }
 {
-    let case = fields::call_named(fields[0], fields[1], fields[2], fields[3]);
+    let case = acyclic_fields::call_named(fields[0], fields[1], fields[2], fields[3]);
     write_case(case, part, out, stored)
 }
 
@@ -95,6 +95,6 @@ pub extern "C" fn rabtunex_write_dpv1_answer(
     ensures bytes { λ _. ⌜ now (out .exit) ≡ heldOf (answerIn (now (fields .entry))) (now (part .entry)) (now (out .entry)) ⌝ }
     ensures count { λ _. ⌜ now (stored .exit) ≡ countAfter (answerOf (answerIn (now (fields .entry))) (now (part .entry)) (length (now (out .entry)))) (now (stored .entry)) ⌝ }
 {
-    let case = fields::answer_named(fields[0], fields[1], fields[2], fields[3]);
+    let case = acyclic_fields::answer_named(fields[0], fields[1], fields[2], fields[3]);
     write_case(case, part, out, stored)
 }

@@ -1,3 +1,2 @@
 pub mod Kinds
-pub mod Dpv1
 pub mod Outcome

@@ -26,9 +26,9 @@ use Rattle.access.specs.declared.table.Service.the-variants as service
 use Rattle.content.specs.Fields.{serviceOf}
 use Rattle.content.specs.declared.fields.Content.{Content}
 use Rattle.content.specs.declared.fields.Content.the-variants as content
-use Rattle.fields.specs.Dpv1.{callFour, answerFour, callNamed, answerNamed}
-use Rattle.fields.specs.declared.dpv1.Case.{Case}
-use Rattle.fields.specs.declared.dpv1.Case.the-variants as case
+use Rattle.acyclic_fields.specs.Four.{callFour, answerFour, callNamed, answerNamed}
+use Rattle.acyclic_fields.specs.declared.four.Case.{Case}
+use Rattle.acyclic_fields.specs.declared.four.Case.the-variants as case
 use Rattle.service_fields.specs.declared.Own.{Own}
 use Rattle.service_fields.specs.declared.Named.{Named}
 use Rattle.service_fields.specs.declared.Named.the-variants as named

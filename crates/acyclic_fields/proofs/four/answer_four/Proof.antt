@@ -1,7 +1,7 @@
--- `fields::dpv1::answer_four` meets its contract. Each case has its own numbers.
+-- `acyclic_fields::four::answer_four` meets its contract. Each case has its own numbers.
 use borrow.Author.Needs.{needs}
-use Rattle.fields.proofs.dpv1.answer_four.Statement.{statement}
-use Rattle.fields.proofs.dpv1.answer_four.Tie as tie
+use Rattle.acyclic_fields.proofs.four.answer_four.Statement.{statement}
+use Rattle.acyclic_fields.proofs.four.answer_four.Tie as tie
 
 enum-known-answer : tie.Need-enum-known-answer
 enum-known-answer c = search needs

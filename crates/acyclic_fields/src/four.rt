@@ -1,7 +1,7 @@
 // The first four fields of DPV1 calls and answers, and what such fields name.
 ghost use mathlib.Core.Path.{_≡_};
 ghost use Rattle.acyclic.specs.Numbers.{failedBy};
-ghost use Rattle.fields.specs.Dpv1.{fourBytes, callFour, answerFour, callNamed, negativeNamed, answerNamed};
+ghost use Rattle.acyclic_fields.specs.Four.{fourBytes, callFour, answerFour, callNamed, negativeNamed, answerNamed};
 use acyclic::Answer;
 use acyclic::Call;
 use acyclic::Failed;

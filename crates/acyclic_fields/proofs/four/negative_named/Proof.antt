@@ -1,8 +1,8 @@
--- `fields::dpv1::negative_named` meets its contract, by the function that the number names.
+-- `acyclic_fields::four::negative_named` meets its contract, by the function that the number names.
 use mathlib.Core.Path.{sym, _∙_}
 use borrow.Author.Needs.{needs}
-use Rattle.fields.proofs.dpv1.negative_named.Statement.{statement}
-use Rattle.fields.proofs.dpv1.negative_named.Tie as tie
+use Rattle.acyclic_fields.proofs.four.negative_named.Statement.{statement}
+use Rattle.acyclic_fields.proofs.four.negative_named.Tie as tie
 
 failed-by-requires : tie.Need-failed-by-requires
 failed-by-requires c κs = search needs

@@ -1,7 +1,7 @@
--- `fields::dpv1::call_four` meets its contract. Each case has its own numbers.
+-- `acyclic_fields::four::call_four` meets its contract. Each case has its own numbers.
 use borrow.Author.Needs.{needs}
-use Rattle.fields.proofs.dpv1.call_four.Statement.{statement}
-use Rattle.fields.proofs.dpv1.call_four.Tie as tie
+use Rattle.acyclic_fields.proofs.four.call_four.Statement.{statement}
+use Rattle.acyclic_fields.proofs.four.call_four.Tie as tie
 
 enum-told : tie.Need-enum-told
 enum-told c = search needs

@@ -1,9 +1,9 @@
--- `fields::dpv1::answer_named` meets its contract. The definition goes by the same numbers, the negative ones last.
+-- `acyclic_fields::four::answer_named` meets its contract. The definition goes by the same numbers, the negative ones last.
 use borrow.Author.Tests.{ne-eqb}
-use Rattle.fields.specs.Dpv1.{answerNamed}
+use Rattle.acyclic_fields.specs.Four.{answerNamed}
 use borrow.Author.Needs.{needs}
-use Rattle.fields.proofs.dpv1.answer_named.Statement.{statement}
-use Rattle.fields.proofs.dpv1.answer_named.Tie as tie
+use Rattle.acyclic_fields.proofs.four.answer_named.Statement.{statement}
+use Rattle.acyclic_fields.proofs.four.answer_named.Tie as tie
 
 negative-named-requires : tie.Need-negative-named-requires
 negative-named-requires c κs = search needs

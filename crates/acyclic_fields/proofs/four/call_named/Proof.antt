@@ -1,8 +1,8 @@
--- `fields::dpv1::call_named` meets its contract. The definition goes by the same numbers.
+-- `acyclic_fields::four::call_named` meets its contract. The definition goes by the same numbers.
 use borrow.Author.Tests.{ne-eqb}
-use Rattle.fields.specs.Dpv1.{callNamed}
-use Rattle.fields.proofs.dpv1.call_named.Statement.{statement}
-use Rattle.fields.proofs.dpv1.call_named.Tie as tie
+use Rattle.acyclic_fields.specs.Four.{callNamed}
+use Rattle.acyclic_fields.proofs.four.call_named.Statement.{statement}
+use Rattle.acyclic_fields.proofs.four.call_named.Tie as tie
 
 returns : tie.Need-returns
 unfolding callNamed

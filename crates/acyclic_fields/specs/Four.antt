@@ -11,9 +11,9 @@ use Rattle.acyclic.specs.declared.calls.Call.{Call}
 use Rattle.acyclic.specs.declared.calls.Call.the-variants as call
 use Rattle.acyclic.specs.declared.answers.Answer.{Answer}
 use Rattle.acyclic.specs.declared.answers.Answer.the-variants as answer
-use Rattle.fields.specs.declared.dpv1.Four.{Four}
-use Rattle.fields.specs.declared.dpv1.Case.{Case}
-use Rattle.fields.specs.declared.dpv1.Case.the-variants as case
+use Rattle.acyclic_fields.specs.declared.four.Four.{Four}
+use Rattle.acyclic_fields.specs.declared.four.Case.{Case}
+use Rattle.acyclic_fields.specs.declared.four.Case.the-variants as case
 
 -- ---- the first four fields of a call and of an answer
 
