@@ -1,5 +1,5 @@
-// Slave diagnosis (document 01, "Diagnosis"): its fields, and the definitions and laws of both ways; the crate
-// diagnosis_reader reads it whole, diagnosis_walk block by block, and diagnosis_writer writes.
+// Slave diagnosis (document 01, "Diagnosis"): its fields, and the definitions and laws of both ways. The crates
+// diagnosis_reader and diagnosis_writer have it whole, diagnosis_walk and diagnosis_block_writer block by block.
 mod block;
 mod map;
 mod reading;

@@ -119,12 +119,12 @@ pub(crate) fn diagnosis_fields(fields: &[u8], out: &mut [u8]) {
 }
 
 pub(crate) fn device_fields(bytes: &[u8], out: &mut [u8]) {
-    let written = diagnosis_writer::write_device(bytes, out);
+    let written = diagnosis_block_writer::write_device(bytes, out);
     stored(written, out);
 }
 
 pub(crate) fn map_fields(map: &[u8], out: &mut [u8]) {
-    let written = diagnosis_writer::write_module(map, out);
+    let written = diagnosis_block_writer::write_module(map, out);
     stored(written, out);
 }
 
@@ -141,6 +141,6 @@ pub(crate) fn channel_fields(fields: &[u8], out: &mut [u8]) {
         kind: fields[3],
         error: fields[4],
     };
-    let written = diagnosis_writer::write_channel(channel, out);
+    let written = diagnosis_block_writer::write_channel(channel, out);
     stored(written, out);
 }

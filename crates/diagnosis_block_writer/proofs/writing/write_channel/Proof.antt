@@ -1,4 +1,4 @@
--- `diagnosis_writer::writing::write_channel` meets its contract. The tests are the verdict, and the three bytes are stored in turn.
+-- `diagnosis_block_writer::writing::write_channel` meets its contract. The tests are the verdict, and the three bytes are stored in turn.
 use mathlib.Core.Path.{_≡_, sym, _∙_}
 use mathlib.Core.Bool.{true}
 use Prim.Native.Nat.{ℕ, _≤_}
@@ -12,8 +12,8 @@ use Rattle.octets.specs.Choice.{and-left, and-right}
 use Rattle.octets.specs.Front.{fine, stores, refused, too-small, stored}
 use Rattle.diagnosis.specs.Writing.{fits, channelBytes, channelVerdict}
 use Rattle.diagnosis.specs.declared.walk.Channel.{Channel}
-use Rattle.diagnosis_writer.proofs.writing.write_channel.Statement.{statement}
-use Rattle.diagnosis_writer.proofs.writing.write_channel.Tie as tie
+use Rattle.diagnosis_block_writer.proofs.writing.write_channel.Statement.{statement}
+use Rattle.diagnosis_block_writer.proofs.writing.write_channel.Tie as tie
 
 -- the fields, at the places behind the tests
 abbrev after2 : tie.Else2 → Channel

@@ -1,4 +1,4 @@
--- `diagnosis_writer::writing::write_sized` meets its contract. The tests are the verdict, and then the block fits.
+-- `diagnosis_block_writer::writing::write_sized` meets its contract. The tests are the verdict, and then the block fits.
 use mathlib.Core.Path.{_≡_}
 use mathlib.Core.List.{List}
 use Prim.Native.Nat.{ℕ}
@@ -8,8 +8,8 @@ use borrow.Author.Needs.{needs}
 use borrow.Author.Tests.{lt-ltb, le-ltb}
 use Rattle.octets.specs.Front.{fine, refused, too-small, stored}
 use Rattle.diagnosis.specs.Writing.{sizedBytes, sizedVerdict}
-use Rattle.diagnosis_writer.proofs.writing.write_sized.Statement.{statement}
-use Rattle.diagnosis_writer.proofs.writing.write_sized.Tie as tie
+use Rattle.diagnosis_block_writer.proofs.writing.write_sized.Statement.{statement}
+use Rattle.diagnosis_block_writer.proofs.writing.write_sized.Tie as tie
 
 -- what is to be written
 abbrev bytesAt : tie.Start → List ℕ

@@ -1,4 +1,4 @@
--- `diagnosis_writer::writing::put_block` meets its contract. Two stores: the bytes behind the header.
+-- `diagnosis_block_writer::writing::put_block` meets its contract. Two stores: the bytes behind the header.
 use mathlib.Core.Path.{_∙_}
 use mathlib.Core.List.{[], _∷_}
 use native.Mathlib.Omega.{arith}
@@ -6,8 +6,8 @@ use lib.ListN.{length-set}
 use denote.Ref.{now}
 use borrow.Author.Needs.{needs}
 use Rattle.octets.specs.Front.{stores, both-stored}
-use Rattle.diagnosis_writer.proofs.writing.put_block.Statement.{statement}
-use Rattle.diagnosis_writer.proofs.writing.put_block.Tie as tie
+use Rattle.diagnosis_block_writer.proofs.writing.put_block.Statement.{statement}
+use Rattle.diagnosis_block_writer.proofs.writing.put_block.Tie as tie
 
 slice-write-out : tie.Need-slice-write-out
 slice-write-out c = search needs

@@ -1,7 +1,7 @@
--- `diagnosis_writer::writing::fits_byte` meets its contract. The definition has the same tests.
+-- `diagnosis_block_writer::writing::fits_byte` meets its contract. The definition has the same tests.
 use borrow.Author.Tests.{le-leb, lt-leb}
-use Rattle.diagnosis_writer.proofs.writing.fits_byte.Statement.{statement}
-use Rattle.diagnosis_writer.proofs.writing.fits_byte.Tie as tie
+use Rattle.diagnosis_block_writer.proofs.writing.fits_byte.Statement.{statement}
+use Rattle.diagnosis_block_writer.proofs.writing.fits_byte.Tie as tie
 
 returns : tie.Need-returns
 returns c = simp (lt-leb _ _ (c .if1 .taken))
