@@ -1,17 +1,30 @@
 // What an opening or a counted call asks for, by the service that it carries. Places are those in the
 // telegram, whatever its bytes are.
 ghost use mathlib.Core.Path.{_≡_};
+ghost use mathlib.Core.Bool.{true};
 ghost use mathlib.Core.List.{List};
-ghost use Prim.Native.Nat.{ℕ};
+ghost use Prim.Native.Nat.{ℕ, _+_, _≤_};
+ghost use lib.ListN.{length};
 ghost use Rattle.octets.specs.Part.{partOf};
+ghost use Rattle.octets.specs.declared.Mode.the-variants.{Dpv1};
+ghost use Rattle.function_code.specs.Code.{classOf};
 ghost use Rattle.fdl.specs.Reading.{readOf};
+ghost use Rattle.fdl.specs.declared.telegram.Format.{Format};
+ghost use Rattle.fdl.specs.declared.telegram.Header.{Header};
+ghost use Rattle.fdl.specs.declared.reading.Reading.the-variants.{Telegram};
+ghost use Rattle.access.specs.Route.{routeOf};
+ghost use Rattle.content.specs.Reading.{endOf};
+ghost use Rattle.service.specs.Reading.{placedAt, routedBy};
+ghost use Rattle.service.specs.declared.reading.Way.the-variants as way;
 ghost use Rattle.service.specs.declared.reading.Reading.the-variants.{Refused};
 ghost use Rattle.protocol.specs.Printer as printer;
 ghost use Rattle.printer_input.specs.Meaning.{askIn};
 use crate::Ask;
+use access::Route;
 use acyclic::Call;
 use content::Content;
-use fdl::Reading;
+use content::UserData;
+use fdl::Header;
 use octets::Mode;
 use octets::Refusal;
 
@@ -73,20 +86,35 @@ fn refused(refusal: Refusal) -> Ask
     Ask::Undecodable
 }
 
-// What is asked for, by what the service reader says.
-fn asked_by(found: service::Reading) -> Ask
-    ensures { λ r. ⌜ ((s : List ℕ) → askIn s r ≡ printer.askBy s found) ⌝ }
+// What is asked for, by what the reader of user data says, which stand at `at` in the telegram.
+fn asked_by(at: usize, found: UserData) -> Ask
+    requires { ⌜ at + endOf found ≤ 255 ⌝ }
+    ensures { λ r. ⌜ ((s : List ℕ) (f : Format) (h : Header) → askIn s r ≡ printer.askBy s (placedAt f h way.Call at found)) ⌝ }
 {
     match found {
-        service::Reading::Service {
-            format: _,
-            header: _,
-            way: _,
+        UserData::Is {
             content,
             start,
             len,
-        } => asked_of(content, start, len),
-        service::Reading::Refused(refusal) => refused(refusal),
+        } => asked_of(content, at + start, len),
+        UserData::Refused(refusal) => refused(refusal),
+    }
+}
+
+// What a call with this header asks for, whose user data stand at `at`. No header of a call names an answer. The
+// printer reads parameters as DPV1.
+fn routed(header: Header, at: usize, user: &[u8]) -> Ask
+    requires { ⌜ (printer.isCall (classOf (header .fc)) ≡ true) × (at + length (now user) ≤ 255) ⌝ }
+    ensures { λ r. ⌜ ((s : List ℕ) (f : Format) → askIn s r ≡ printer.askBy s (routedBy (routeOf header) f header at (now (user .entry)) Dpv1)) ⌝ }
+{
+    let route = routing::route_of(header);
+    match route {
+        Route::Nowhere => Ask::Unknown,
+        Route::Call(service) => {
+            let found = content_reader::read_call(service, user, Mode::Dpv1);
+            asked_by(at, found)
+        }
+        Route::Answer(_) => Ask::Unknown,
     }
 }
 
@@ -100,13 +128,13 @@ fn is_srd(fc: u8) -> bool
     fc % 16 == 13
 }
 
-// What a call with this function code asks for. The printer reads parameters as DPV1.
-pub(crate) fn asked_in(telegram: &[u8], reading: Reading, fc: u8) -> Ask
-    requires { ⌜ reading ≡ readOf (now telegram) ⌝ }
-    ensures { λ r. ⌜ askIn (now (telegram .entry)) r ≡ printer.askIn (now (telegram .entry)) fc ⌝ }
+// What a call with this header asks for, whose user data are the len bytes from start.
+pub(crate) fn asked_in(telegram: &[u8], header: Header, start: usize, len: usize) -> Ask
+    requires { ⌜ (printer.isCall (classOf (header .fc)) ≡ true) × (start + len ≤ 255) ⌝ }
+    ensures { λ r. ⌜ ((f : Format) → Telegram f header start len ≡ readOf (now (telegram .entry)) → askIn (now (telegram .entry)) r ≡ printer.askIn (now (telegram .entry)) (header .fc)) ⌝ }
 {
-    if !is_srd(fc) {
+    if !is_srd(header.fc) {
         return Ask::Unknown;
     }
-    asked_by(service_reader::carried(telegram, reading, Mode::Dpv1))
+    routed(header, start, octets::part(telegram, start, len))
 }

@@ -1,7 +1,7 @@
 // What a telegram is to the printer (document 01, "Printer rules"): one case for each rule, and what a call
 // asks for. The telegram is read once, also where it carries a service.
 ghost use mathlib.Core.Path.{_≡_};
-ghost use Prim.Native.Nat.{ℕ};
+ghost use Prim.Native.Nat.{_+_, _≤_};
 ghost use Rattle.fdl.specs.Reading.{readOf};
 ghost use Rattle.fdl.specs.declared.telegram.Format.{Format};
 ghost use Rattle.fdl.specs.declared.reading.Reading.the-variants.{Telegram};
@@ -46,10 +46,11 @@ pub enum Received {
     Counted { fcb: bool, sa: u8, ask: Ask },
 }
 
-// What a telegram with this header is: an answer is nothing to the printer, whoever it is for.
-fn addressed(address: u8, telegram: &[u8], reading: Reading, header: Header) -> Received
-    requires { ⌜ reading ≡ readOf (now telegram) ⌝ }
-    ensures { λ r. ⌜ ((f : Format) (start len : ℕ) → receivedIn (now (telegram .entry)) r ≡ receivedBy address (now (telegram .entry)) (Telegram f header start len)) ⌝ }
+// What a telegram with this header is, whose user data are the len bytes from start: an answer is nothing to the printer,
+// whoever it is for.
+fn addressed(address: u8, telegram: &[u8], header: Header, start: usize, len: usize) -> Received
+    requires { ⌜ start + len ≤ 255 ⌝ }
+    ensures { λ r. ⌜ ((f : Format) → Telegram f header start len ≡ readOf (now (telegram .entry)) → receivedIn (now (telegram .entry)) r ≡ receivedBy address (now (telegram .entry)) (Telegram f header start len)) ⌝ }
 {
     let class = function_code::class_of(header.fc);
     if !is_call(class) {
@@ -58,7 +59,7 @@ fn addressed(address: u8, telegram: &[u8], reading: Reading, header: Header) -> 
     if header.da != address {
         return Received::Elsewhere;
     }
-    called(class, telegram, reading, header)
+    called(class, telegram, header, start, len)
 }
 
 // What a telegram is to the printer with this address.
@@ -72,9 +73,9 @@ pub fn receive(address: u8, telegram: &[u8]) -> Received
         Reading::Telegram {
             format: _,
             header,
-            start: _,
-            len: _,
-        } => addressed(address, telegram, reading, header),
+            start,
+            len,
+        } => addressed(address, telegram, header, start, len),
         Reading::Refused(_) => Received::Nothing,
     }
 }

@@ -18,20 +18,22 @@ is-call-requires : tie.Need-is-call-requires
 is-call-requires c κs = search needs
 
 returns : tie.Need-returns
-returns c f start len = simp (told (c .before) ∙ not-true _ (c .if1 .taken))
+returns c f read = simp (told (c .before) ∙ not-true _ (c .if1 .taken))
 
 returns-2 : tie.Need-returns-2
-returns-2 c f start len =
+returns-2 c f read =
     let k = c .before .before in
     simp (told (k .before) ∙ not-false _ (k .if1 .left), ne-eqb _ _ (c .if2 .taken))
 
 called-requires : tie.Need-called-requires
-called-requires c κs = search needs
+called-requires c κs =
+    let k = c .before .before in
+    (told (k .before) ∙ not-false _ (k .if1 .left), k .before .before .before .before .pre)
 
 returns-3 : tie.Need-returns-3
-returns-3 c f start len =
+returns-3 c f read =
     let k = c .before .before .before in
-    simp (told (k .before) ∙ not-false _ (k .if1 .left), eq-eqb _ _ (c .before .if2 .left), ← k .before .before .class-of .ensures) (c .called .ensures)
+    simp (told (k .before) ∙ not-false _ (k .if1 .left), eq-eqb _ _ (c .before .if2 .left), ← k .before .before .class-of .ensures) (c .called .ensures f read)
 
 pub addressed-spec : {M : Type 1} → statement M
 addressed-spec =

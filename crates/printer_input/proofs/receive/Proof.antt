@@ -1,6 +1,9 @@
 -- `printer_input::receive` meets its contract: by what the telegram is.
 use mathlib.Core.Path.{sym, ap, _∙_}
+use native.Mathlib.Omega.{arith}
 use denote.Ref.{now}
+use Rattle.function_code.specs.Code.{classOf}
+use Rattle.fdl.specs.Laws.{data-inside}
 use Rattle.protocol.specs.Printer.{receivedBy, receivedOf}
 use borrow.Author.Needs.{needs}
 use Rattle.printer_input.proofs.receive.Statement.{statement}
@@ -19,7 +22,10 @@ enum-known-reading : tie.Need-enum-known-reading
 enum-known-reading c = search needs
 
 addressed-requires : tie.Need-addressed-requires
-addressed-requires c κs = sym (c .before .reading .given .1) ∙ c .before .before .before .read .ensures
+addressed-requires c κs =
+    let r = c .before .before .before in
+    let i = data-inside classOf (now (r .before .before .args .telegram)) (sym (r .read .ensures) ∙ c .before .reading .given .1) in
+    omega (arith, i .ends, i .most)
 
 enum-told-3 : tie.Need-enum-told-3
 enum-told-3 c = search needs
@@ -39,7 +45,7 @@ returns-3 c =
     let r = k .before .before in
     let a = r .before .before .args in
     let g = k .reading .given in
-    c .addressed .ensures (g .0 .0) (g .0 .1 .1 .0) (g .0 .1 .1 .1 .0)
+    c .addressed .ensures (g .0 .0) (sym (g .1) ∙ r .read .ensures)
     ∙ sym (ap (receivedBy (a .address) (now (a .telegram))) (sym (r .read .ensures) ∙ g .1))
 
 returns-4 : tie.Need-returns-4

@@ -1,0 +1,69 @@
+-- `printer_input::asking::routed` meets its contract: by the route, which is no answer's.
+use mathlib.Core.Path.{sym, ap, _∙_}
+use native.Mathlib.Omega.{arith}
+use denote.Ref.{now}
+use Rattle.octets.specs.declared.Mode.the-variants.{Dpv1}
+use Rattle.access.specs.declared.route.Route.{Route}
+use Rattle.content.specs.Reading.{endOf}
+use Rattle.content.specs.Lemmas.Inside.{call-inside}
+use Rattle.content.specs.declared.reading.UserData.{UserData}
+use Rattle.service.specs.Reading.{placedAt, routedBy}
+use Rattle.service.specs.declared.reading.Way.the-variants as way
+use Rattle.protocol.specs.Printer.{askBy}
+use Rattle.printer_input.proofs.Way.{no-answer}
+use borrow.Author.Needs.{needs}
+use Rattle.printer_input.proofs.asking.routed.Statement.{statement}
+use Rattle.printer_input.proofs.asking.routed.Tie as tie
+
+route-of-requires : tie.Need-route-of-requires
+route-of-requires c κs = search needs
+
+enum-told : tie.Need-enum-told
+enum-told c = search needs
+
+enum-known-route : tie.Need-enum-known-route
+enum-known-route c = search needs
+
+read-call-requires : tie.Need-read-call-requires
+read-call-requires c κs = search needs
+
+asked-by-requires : tie.Need-asked-by-requires
+asked-by-requires c κs =
+    let r = c .before .before in
+    let b = r .before .before .before .before in
+    let e = ap endOf (c .read-call .ensures) in
+    omega (arith, e, call-inside (r .route .given .0 .0) (now (b .args .user)) Dpv1, b .pre .1)
+
+enum-told-2 : tie.Need-enum-told-2
+enum-told-2 c = search needs
+
+returns : tie.Need-returns
+returns c s f = simp (sym (c .before .before .route-of .ensures) ∙ c .enum-told .given .1)
+
+returns-2 : tie.Need-returns-2
+returns-2 c s f =
+    let k = c .before .before .before in
+    let r = k .before .before in
+    let a = r .before .before .args in
+    c .asked-by .ensures s f (a .header) ∙ ap (λ (d : UserData). askBy s (placedAt f (a .header) way.Call (a .at) d)) (c .before .read-call .ensures)
+    ∙ sym (ap (λ (x : Route). askBy s (routedBy x f (a .header) (a .at) (now (a .user)) Dpv1)) (sym (r .route-of .ensures) ∙ k .route .given .1))
+
+returns-3 : tie.Need-returns-3
+returns-3 c s f =
+    let r = c .before .before in
+    let b = r .before .before in
+    absurd (no-answer (b .args .header) (c .enum-told2 .given .0 .0) (b .pre .0) (sym (r .route-of .ensures) ∙ c .enum-told2 .given .1))
+
+pub routed-spec : {M : Type 1} → statement M
+routed-spec =
+    tie.close
+    (tie.spec
+    route-of-requires
+    enum-told
+    enum-known-route
+    read-call-requires
+    asked-by-requires
+    enum-told-2
+    returns
+    returns-2
+    returns-3)
