@@ -1,7 +1,6 @@
 // What a reply is to the controller (document 01, "The controller's step"). The reply is read once, also where
-// it carries a service.
+// it carries a service, and of a service only what a download has a use for.
 ghost use mathlib.Core.Path.{_≡_};
-ghost use Prim.Native.Nat.{ℕ};
 ghost use Rattle.fdl.specs.Reading.{readOf};
 ghost use Rattle.fdl.specs.declared.reading.Reading.the-variants.{Telegram};
 ghost use Rattle.protocol.specs.Controller.{gotFrom, gotIn};
@@ -13,10 +12,9 @@ mod replies;
 use fdl::Format;
 use fdl::Header;
 use fdl::Reading;
-use octets::Mode;
 use origin::is_printers;
 use protocol::Settings;
-use replies::reply_by;
+use replies::routed;
 
 // A reply that framing accepts.
 pub enum Reply {
@@ -38,21 +36,23 @@ pub enum Exchange {
     Nothing,
 }
 
-// What a telegram with this header says: only the printer's own is more than another reply.
+// What a telegram with this header says, whose user data are the len bytes from start: only the printer's own is more
+// than another reply.
 fn heard(
     settings: Settings,
     reply: &[u8],
-    reading: Reading,
     format: Format,
     header: Header,
+    start: usize,
+    len: usize,
 ) -> Reply
-    requires { ⌜ reading ≡ readOf (now reply) ⌝ }
-    ensures { λ r. ⌜ ((start len : ℕ) → gotBy r ≡ gotFrom settings (now (reply .entry)) (Telegram format header start len)) ⌝ }
+    requires { ⌜ Telegram format header start len ≡ readOf (now reply) ⌝ }
+    ensures { λ r. ⌜ gotBy r ≡ gotFrom settings (now (reply .entry)) (Telegram format header start len) ⌝ }
 {
     if !is_printers(settings, format, header) {
         return Reply::Other;
     }
-    reply_by(service_reader::carried(reply, reading, Mode::Dpv1))
+    routed(header, octets::part(reply, start, len))
 }
 
 // What the bytes that came back are to a controller with these settings.
@@ -66,9 +66,9 @@ pub fn take(settings: Settings, reply: &[u8]) -> Exchange
         Reading::Telegram {
             format,
             header,
-            start: _,
-            len: _,
-        } => Exchange::Answered(heard(settings, reply, reading, format, header)),
+            start,
+            len,
+        } => Exchange::Answered(heard(settings, reply, format, header, start, len)),
         Reading::Refused(_) => Exchange::Nothing,
     }
 }

@@ -2,11 +2,17 @@
 // another reply.
 ghost use mathlib.Core.Path.{_≡_};
 ghost use Rattle.protocol.specs.Controller as controller;
-ghost use Rattle.controller_input.specs.Meaning.{gotBy};
+ghost use Rattle.access.specs.Route.{routeOf};
+ghost use Rattle.content.specs.Reading.{diagnosisOf, dpv1AnswerOf, answerOf};
+ghost use Rattle.controller_input.specs.Meaning.{gotBy, gotOfData, gotOfRoute};
 use crate::Reply;
+use access::Answering;
+use access::Route;
 use acyclic::Answer;
+use acyclic::AnswerReading;
 use acyclic::Function;
-use content::Content;
+use diagnosis::Reading;
+use fdl::Header;
 
 // A negative answer: a write's alone is DF.
 fn negative(function: Function, code1: u8, code2: u8) -> Reply
@@ -51,40 +57,58 @@ fn reply_of_dpv1(answer: Answer) -> Reply
     }
 }
 
-// A diagnosis, a DPV1 answer, or a service that no request of a download asks for.
-fn reply_of(content: Content) -> Reply
-    ensures { λ r. ⌜ gotBy r ≡ controller.gotOf content ⌝ }
+// An answer of DPV1, where it can be read.
+fn reply_by_dpv1(user: &[u8]) -> Reply
+    ensures { λ r. ⌜ gotBy r ≡ gotOfData (dpv1AnswerOf (now (user .entry))) ⌝ }
 {
-    match content {
-        Content::DataExchange => Reply::Other,
-        Content::Dpv1Call(_) => Reply::Other,
-        Content::Dpv1Answer(answer) => reply_of_dpv1(answer),
-        Content::ExtUserPrm => Reply::Other,
-        Content::SetSlaveAdr(_) => Reply::Other,
-        Content::RdInp => Reply::Other,
-        Content::RdOutp => Reply::Other,
-        Content::GlobalControl(_) => Reply::Other,
-        Content::GetCfg => Reply::Other,
-        Content::SlaveDiagCall => Reply::Other,
-        Content::SlaveDiag(_) => Reply::Diagnosis,
-        Content::SetPrm(_) => Reply::Other,
-        Content::ChkCfg => Reply::Other,
+    let reading = acyclic_reader::read_answer(user);
+    match reading {
+        AnswerReading::Answer {
+            answer,
+            start: _,
+            len: _,
+        } => reply_of_dpv1(answer),
+        AnswerReading::Refused(_) => Reply::Other,
     }
 }
 
-// What the service reader says of it.
-pub(crate) fn reply_by(found: service::Reading) -> Reply
-    ensures { λ r. ⌜ gotBy r ≡ controller.gotBy found ⌝ }
+// A diagnosis, where it can be read.
+fn reply_by_diagnosis(user: &[u8]) -> Reply
+    ensures { λ r. ⌜ gotBy r ≡ gotOfData (diagnosisOf (now (user .entry))) ⌝ }
 {
-    match found {
-        service::Reading::Service {
-            format: _,
+    let reading = diagnosis_reader::read(user);
+    match reading {
+        Reading::Diagnosis {
             header: _,
-            way: _,
-            content,
-            start: _,
-            len: _,
-        } => reply_of(content),
-        service::Reading::Refused(_) => Reply::Other,
+            blocks: _,
+        } => Reply::Diagnosis,
+        Reading::Refused(_) => Reply::Other,
+    }
+}
+
+// A diagnosis, a DPV1 answer, or a service that no request of a download asks for: that is another reply, whether its
+// data can be read or not.
+fn answered(answering: Answering, user: &[u8]) -> Reply
+    ensures { λ r. ⌜ gotBy r ≡ gotOfData (answerOf answering (now (user .entry))) ⌝ }
+{
+    match answering {
+        Answering::DataExchange => Reply::Other,
+        Answering::Dpv1 => reply_by_dpv1(user),
+        Answering::RdInp => Reply::Other,
+        Answering::RdOutp => Reply::Other,
+        Answering::GetCfg => Reply::Other,
+        Answering::SlaveDiag => reply_by_diagnosis(user),
+    }
+}
+
+// What a telegram with this header and these user data says. A call is another reply, whatever it asks for.
+pub(crate) fn routed(header: Header, user: &[u8]) -> Reply
+    ensures { λ r. ⌜ gotBy r ≡ gotOfRoute (routeOf header) (now (user .entry)) ⌝ }
+{
+    let route = routing::route_of(header);
+    match route {
+        Route::Nowhere => Reply::Other,
+        Route::Call(_) => Reply::Other,
+        Route::Answer(answering) => answered(answering, user),
     }
 }

@@ -57,7 +57,7 @@ fn routed(format: Format, header: Header, at: usize, user: &[u8], mode: Mode) ->
 
 // The service that a telegram carries which `fdl_reader::read` read from these bytes already. A token, a short
 // confirmation and a bare answer carry none. User data that do not lie inside the bytes count as empty.
-pub fn carried(bytes: &[u8], telegram: fdl::Reading, mode: Mode) -> Reading
+fn carried(bytes: &[u8], telegram: fdl::Reading, mode: Mode) -> Reading
     ensures { λ r. ⌜ r ≡ serviceIn (now (bytes .entry)) mode telegram ⌝ }
 {
     match telegram {

@@ -39,7 +39,7 @@ returns-3 c =
     let r = k .before .before in
     let a = r .before .before .args in
     let g = k .reading .given in
-    c .heard .ensures (g .0 .1 .1 .0) (g .0 .1 .1 .1 .0) ∙ sym (ap (gotFrom (a .settings) (now (a .reply))) (sym (r .read .ensures) ∙ g .1))
+    c .heard .ensures ∙ sym (ap (gotFrom (a .settings) (now (a .reply))) (sym (r .read .ensures) ∙ g .1))
 
 returns-4 : tie.Need-returns-4
 unfolding gotIn
