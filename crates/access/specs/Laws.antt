@@ -12,15 +12,13 @@ use Rattle.fdl.specs.declared.telegram.Header.{Header}
 use Rattle.fdl.specs.declared.telegram.Sap.{Sap}
 use Rattle.fdl.specs.declared.telegram.Sap.the-variants.{Absent, Present}
 use Rattle.access.specs.Table.{look, services, rowAt, pointsIn, pointsOf}
-use Rattle.access.specs.Route.{namedIn, namedBy, kindOf, isGlobalControl, callRoute, commandRoute, answerFrom, answerRoute, routeBy, routeOf, headerBy, headerOf}
+use Rattle.access.specs.Route.{pointsWith, namedBy, kindOf, isGlobalControl, callRoute, commandRoute, answerFrom, answerRoute, routeBy, routeOf, headerBy, headerOf}
 use Rattle.access.specs.declared.table.Service.{Service}
 use Rattle.access.specs.declared.table.Service.the-variants as service
 use Rattle.access.specs.declared.table.Row.{Row}
 use Rattle.access.specs.declared.table.Points.{Points}
-use Rattle.access.specs.declared.table.Found.{Found}
-use Rattle.access.specs.declared.table.Found.the-variants as found
-use Rattle.access.specs.declared.route.Named.{Named}
-use Rattle.access.specs.declared.route.Named.the-variants.{Is, Nothing}
+use Rattle.access.specs.declared.table.Named.{Named}
+use Rattle.access.specs.declared.table.Named.the-variants.{Is, Nothing}
 use Rattle.access.specs.declared.route.Kind.{Kind}
 use Rattle.access.specs.declared.route.Kind.the-variants as kind
 use Rattle.access.specs.declared.route.Answering.{Answering}
@@ -50,20 +48,17 @@ Each Q [] = Unit
 Each Q (r ∷ rows) = Q r × Each Q rows
 
 -- what holds of every row, where it has the pair, and of none, holds of what is found
-found-by : (P : Found → Type 0) (slave master : ℕ) (rows : List Row) → P found.Nothing
-    → Each (λ r. r .slave ≡ slave → r .master ≡ master → P (found.Is r)) rows → P (look slave master rows)
+found-by : (P : Named → Type 0) (slave master : ℕ) (rows : List Row) → P Nothing
+    → Each (λ r. r .slave ≡ slave → r .master ≡ master → P (Is (r .service))) rows → P (look slave master rows)
 unfolding look
 found-by P slave master [] n q = n
 found-by P slave master (r ∷ rows) n q =
     let rest = found-by P slave master rows n (q .1) in
     by-pick P (eqb (r .slave) slave) (λ e. by-pick P (eqb (r .master) master) (λ f. q .0 (eqb-true _ _ e) (eqb-true _ _ f)) (λ _. rest)) (λ _. rest)
 
-abbrev points : (slave master : Sap) → Points
-points slave master = record { slave = slave; master = master }
-
 -- a service that is named has these access points
 abbrev Points-of : (slave master : Sap) → Named → Type 0
-Points-of slave master (Is s) = pointsOf s ≡ points slave master
+Points-of slave master (Is s) = pointsOf s ≡ pointsWith slave master
 Points-of slave master Nothing = Unit
 
 -- the access points of a row's service are the row's
@@ -78,7 +73,7 @@ named-points Absent Absent = refl
 named-points Absent (Present m) = tt
 named-points (Present s) Absent = tt
 named-points (Present s) (Present m) =
-    found-by (λ (f : Found). Points-of (Present s) (Present m) (namedIn f)) s m services tt
+    found-by (Points-of (Present s) (Present m)) s m services tt
     (in-row 0 refl, (in-row 1 refl, (in-row 2 refl, (in-row 3 refl, (in-row 4 refl, (in-row 5 refl, (in-row 6 refl, (in-row 7 refl, (in-row 8 refl, (in-row 9 refl, tt))))))))))
 
 -- ---- headers
@@ -157,7 +152,7 @@ AgainBy k h route.Nowhere = Unit
 
 -- what holds of no route, and of every service with the access points, holds of the route of what they name: of an answer's
 module _ (P : Route → Type 0) (slave master : Sap) (none : P route.Nowhere) where
-  answer-in : (n : Named) → Points-of slave master n → ((a : Answering) → pointsOf (answererOf a) ≡ points slave master → P (route.Answer a))
+  answer-in : (n : Named) → Points-of slave master n → ((a : Answering) → pointsOf (answererOf a) ≡ pointsWith slave master → P (route.Answer a))
       → P (answerRoute n)
   answer-in Nothing p q = none
   answer-in (Is service.DataExchange) p q = q answering.DataExchange p
@@ -172,23 +167,23 @@ module _ (P : Route → Type 0) (slave master : Sap) (none : P route.Nowhere) wh
   answer-in (Is service.SetPrm) p q = none
   answer-in (Is service.ChkCfg) p q = none
 
-  by-answer : ((a : Answering) → pointsOf (answererOf a) ≡ points slave master → P (route.Answer a)) → P (answerRoute (namedBy slave master))
+  by-answer : ((a : Answering) → pointsOf (answererOf a) ≡ pointsWith slave master → P (route.Answer a)) → P (answerRoute (namedBy slave master))
   by-answer q = answer-in (namedBy slave master) (named-points slave master) q
 
   -- and of a call's, of either kind
-  call-in : (n : Named) → Points-of slave master n → ((s : Service) → pointsOf s ≡ points slave master → P (route.Call s))
+  call-in : (n : Named) → Points-of slave master n → ((s : Service) → pointsOf s ≡ pointsWith slave master → P (route.Call s))
       → P (callRoute n) × P (commandRoute n)
   call-in Nothing p q = (none, none)
   call-in (Is s) p q =
       (by-pick P (isGlobalControl s) (λ _. none) (λ _. q s p), by-pick P (isGlobalControl s) (λ _. q s p) (λ _. none))
 
-  by-call : ((s : Service) → pointsOf s ≡ points slave master → P (route.Call s))
+  by-call : ((s : Service) → pointsOf s ≡ pointsWith slave master → P (route.Call s))
       → P (callRoute (namedBy slave master)) × P (commandRoute (namedBy slave master))
   by-call q = call-in (namedBy slave master) (named-points slave master) q
 
 module _ (h : Header) where
-  same : (k : Kind) (s : Service) (slave master : Sap) → pointsOf s ≡ points slave master
-      → headerBy k (h .da) (h .sa) (h .fc) (pointsOf s) ≡ headerBy k (h .da) (h .sa) (h .fc) (points slave master)
+  same : (k : Kind) (s : Service) (slave master : Sap) → pointsOf s ≡ pointsWith slave master
+      → headerBy k (h .da) (h .sa) (h .fc) (pointsOf s) ≡ headerBy k (h .da) (h .sa) (h .fc) (pointsWith slave master)
   same k s slave master e = ap (headerBy k (h .da) (h .sa) (h .fc)) e
 
   again-by : (k : Kind) → AgainBy k h (routeBy k (h .dsap) (h .ssap))

@@ -14,28 +14,21 @@ use Rattle.access.specs.Table.{look, services, pointsOf}
 use Rattle.access.specs.declared.table.Service.{Service}
 use Rattle.access.specs.declared.table.Service.the-variants as service
 use Rattle.access.specs.declared.table.Points.{Points}
-use Rattle.access.specs.declared.table.Found.{Found}
-use Rattle.access.specs.declared.table.Found.the-variants as found
-use Rattle.access.specs.declared.route.Named.{Named}
-use Rattle.access.specs.declared.route.Named.the-variants.{Is, Nothing}
+use Rattle.access.specs.declared.table.Named.{Named}
+use Rattle.access.specs.declared.table.Named.the-variants.{Is, Nothing}
 use Rattle.access.specs.declared.route.Kind.{Kind}
 use Rattle.access.specs.declared.route.Kind.the-variants as kind
 use Rattle.access.specs.declared.route.Answering.the-variants as answering
 use Rattle.access.specs.declared.route.Route.{Route}
 use Rattle.access.specs.declared.route.Route.the-variants as route
 
--- ---- the access points: in a call DSAP is the slave's, in an answer SSAP
+-- ---- the access points: no access point is Data_Exchange, one of two is nothing
 
-abbrev pub namedIn : Found → Named
-namedIn (found.Is r) = Is (r .service)
-namedIn found.Nothing = Nothing
-
--- no access point is Data_Exchange, one of two is nothing
 abbrev pub namedBy : (slave master : Sap) → Named
 namedBy Absent Absent = Is service.DataExchange
 namedBy Absent (Present master) = Nothing
 namedBy (Present slave) Absent = Nothing
-namedBy (Present slave) (Present master) = namedIn (look slave master services)
+namedBy (Present slave) (Present master) = look slave master services
 
 -- ---- the function code: opening and counted calls, call functions 4 and 6, data answers, and no other
 
@@ -98,11 +91,26 @@ answerRoute (Is s) = answerFrom s
 
 -- ---- the whole
 
+abbrev pub pointsWith : (slave master : Sap) → Points
+pointsWith slave master = record { slave = slave; master = master }
+
+-- the slave's access point and the master's: in a call DSAP is the slave's, in an answer SSAP
+abbrev pub pointsBy : Kind → (dsap ssap : Sap) → Points
+pointsBy kind.Call dsap ssap = pointsWith dsap ssap
+pointsBy kind.Command dsap ssap = pointsWith dsap ssap
+pointsBy kind.Answer dsap ssap = pointsWith ssap dsap
+pointsBy kind.Other dsap ssap = pointsWith dsap ssap
+
+abbrev pub wayBy : Kind → Named → Route
+wayBy kind.Call n = callRoute n
+wayBy kind.Command n = commandRoute n
+wayBy kind.Answer n = answerRoute n
+wayBy kind.Other n = route.Nowhere
+
 abbrev pub routeBy : Kind → (dsap ssap : Sap) → Route
-routeBy kind.Call dsap ssap = callRoute (namedBy dsap ssap)
-routeBy kind.Command dsap ssap = commandRoute (namedBy dsap ssap)
-routeBy kind.Answer dsap ssap = answerRoute (namedBy ssap dsap)
-routeBy kind.Other dsap ssap = route.Nowhere
+routeBy k dsap ssap =
+    let p = pointsBy k dsap ssap in
+    wayBy k (namedBy (p .slave) (p .master))
 
 unfoldable pub routeOf : Header → Route
 routeOf h = routeBy (kindOf (h .fc)) (h .dsap) (h .ssap)

@@ -5,9 +5,8 @@ mod table;
 
 pub use route::Answering;
 pub use route::Kind;
-pub use route::Named;
 pub use route::Route;
-pub use table::Found;
+pub use table::Named;
 pub use table::Points;
 pub use table::Row;
 pub use table::Service;

@@ -1,12 +1,6 @@
 // Which service a telegram's function code and access points name, and which way it goes.
 use crate::table::Service;
 
-// The service that a telegram's access points name.
-pub enum Named {
-    Is(Service),
-    Nothing,
-}
-
 // What a function code may carry: a service's call, Global_Control, a service's answer, or none.
 pub enum Kind {
     Call,

@@ -1,4 +1,4 @@
-// The list of access points: what a row of it holds, and what a search finds.
+// The list of access points: what a row of it holds, and what a search in it finds.
 use fdl::Sap;
 
 // The services of DP. Data_Exchange alone has no access points.
@@ -23,9 +23,9 @@ pub struct Row {
     pub service: Service,
 }
 
-// The row of a pair of access points.
-pub enum Found {
-    Is(Row),
+// The service that a pair of access points names.
+pub enum Named {
+    Is(Service),
     Nothing,
 }
 

@@ -3,13 +3,19 @@
 ghost use mathlib.Core.Path.{_≡_};
 ghost use Prim.Native.Nat.{_<_};
 ghost use Rattle.access.specs.Table.{look, services, pointsIn, rowAt, pointsOf};
-use access::Found;
+use access::Named;
 use access::Points;
 use access::Row;
 use access::Service;
 use fdl::Sap;
 
+// DPV1 first, which nearly every telegram of a download carries.
 const SERVICES: [Row; 10] = [
+    Row {
+        slave: 51,
+        master: 51,
+        service: Service::Dpv1,
+    },
     Row {
         slave: 53,
         master: 62,
@@ -55,28 +61,29 @@ const SERVICES: [Row; 10] = [
         master: 62,
         service: Service::ChkCfg,
     },
-    Row {
-        slave: 51,
-        master: 51,
-        service: Service::Dpv1,
-    },
 ];
 
-// Finds a pair of access points in the list.
-pub fn find(slave: u8, master: u8) -> Found
+// The service that a pair of access points names in the list. It is searched from its last row to its
+// first, so that the first row with the pair is the one that counts. The rows are taken once, ahead of
+// the loop: the compiler then makes one test of the slave's access point of all of them, and no list
+// stands in the frame.
+pub fn find(slave: u8, master: u8) -> Named
     ensures { λ r. ⌜ r ≡ look slave master services ⌝ }
 {
-    let mut i: usize = 0;
-    while i < 10 {
-        let row = SERVICES[i];
+    let rows = SERVICES;
+    let mut named = Named::Nothing;
+    let mut i: usize = 10;
+    while 0 < i {
+        i -= 1;
+        let row = rows[i];
         if row.slave == slave {
             if row.master == master {
-                return Found::Is(row);
+                let service = row.service;
+                named = Named::Is(service);
             }
         }
-        i += 1;
     }
-    Found::Nothing
+    named
 }
 
 fn points_at(i: usize) -> Points
@@ -99,15 +106,15 @@ pub fn points_of(service: Service) -> Points
             slave: Sap::Absent,
             master: Sap::Absent,
         },
-        Service::ExtUserPrm => points_at(0),
-        Service::SetSlaveAdr => points_at(1),
-        Service::RdInp => points_at(2),
-        Service::RdOutp => points_at(3),
-        Service::GlobalControl => points_at(4),
-        Service::GetCfg => points_at(5),
-        Service::SlaveDiag => points_at(6),
-        Service::SetPrm => points_at(7),
-        Service::ChkCfg => points_at(8),
-        Service::Dpv1 => points_at(9),
+        Service::Dpv1 => points_at(0),
+        Service::ExtUserPrm => points_at(1),
+        Service::SetSlaveAdr => points_at(2),
+        Service::RdInp => points_at(3),
+        Service::RdOutp => points_at(4),
+        Service::GlobalControl => points_at(5),
+        Service::GetCfg => points_at(6),
+        Service::SlaveDiag => points_at(7),
+        Service::SetPrm => points_at(8),
+        Service::ChkCfg => points_at(9),
     }
 }

@@ -12,8 +12,8 @@ use Rattle.fdl.specs.declared.telegram.Sap.{Sap}
 use Rattle.access.specs.Route.{isGlobalControl, namedBy, callRoute, commandRoute, kindBy, kindOf, routeBy, routeOf}
 use Rattle.access.specs.declared.route.Answering.{Answering}
 use Rattle.access.specs.declared.route.Kind.{Kind}
-use Rattle.access.specs.declared.route.Named.{Named}
-use Rattle.access.specs.declared.route.Named.the-variants.{Is, Nothing}
+use Rattle.access.specs.declared.table.Named.{Named}
+use Rattle.access.specs.declared.table.Named.the-variants.{Is, Nothing}
 use Rattle.access.specs.declared.route.Route.{Route}
 use Rattle.access.specs.declared.route.Route.the-variants as route
 use Rattle.protocol.specs.Printer.{isCall}

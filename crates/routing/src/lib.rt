@@ -1,11 +1,11 @@
 // Which service a telegram's function code and access points name, and which way it goes (document 01,
 // "Services by access point").
 ghost use mathlib.Core.Path.{_≡_};
-ghost use Rattle.access.specs.Route.{uncountedKind, kindOf, namedIn, namedBy, isGlobalControl, callRoute, commandRoute, answerFrom, answerRoute, headerWith, headerOf, routeOf};
+ghost use Rattle.access.specs.Route.{uncountedKind, kindOf, namedBy, isGlobalControl, callRoute, commandRoute, answerFrom, answerRoute, pointsWith, pointsBy, wayBy, routeOf, headerWith, headerOf};
 use access::Answering;
-use access::Found;
 use access::Kind;
 use access::Named;
+use access::Points;
 use access::Route;
 use access::Service;
 use access_table::find;
@@ -40,18 +40,6 @@ fn kind_of(fc: u8) -> Kind
     }
 }
 
-fn named_in(found: Found) -> Named
-    ensures { λ r. ⌜ r ≡ namedIn found ⌝ }
-{
-    match found {
-        Found::Is(row) => {
-            let service = row.service;
-            Named::Is(service)
-        }
-        Found::Nothing => Named::Nothing,
-    }
-}
-
 // The service of the slave's and the master's access point. One of two names none.
 fn named_by(slave: Sap, master: Sap) -> Named
     ensures { λ r. ⌜ r ≡ namedBy slave master ⌝ }
@@ -63,7 +51,7 @@ fn named_by(slave: Sap, master: Sap) -> Named
         },
         Sap::Present(slave) => match master {
             Sap::Absent => Named::Nothing,
-            Sap::Present(master) => named_in(find(slave, master)),
+            Sap::Present(master) => find(slave, master),
         },
     }
 }
@@ -173,17 +161,45 @@ pub fn header_of(service: Service, da: u8, sa: u8, fc: u8) -> Header
     }
 }
 
-// The route of a telegram with this header.
+fn points_with(slave: Sap, master: Sap) -> Points
+    ensures { λ r. ⌜ r ≡ pointsWith slave master ⌝ }
+{
+    Points { slave, master }
+}
+
+// The slave's access point and the master's. A call goes to the slave's, and an answer comes from it.
+fn points_by(kind: Kind, dsap: Sap, ssap: Sap) -> Points
+    ensures { λ r. ⌜ r ≡ pointsBy kind dsap ssap ⌝ }
+{
+    match kind {
+        Kind::Call => points_with(dsap, ssap),
+        Kind::Command => points_with(dsap, ssap),
+        Kind::Answer => points_with(ssap, dsap),
+        Kind::Other => points_with(dsap, ssap),
+    }
+}
+
+fn way_by(kind: Kind, named: Named) -> Route
+    ensures { λ r. ⌜ r ≡ wayBy kind named ⌝ }
+{
+    match kind {
+        Kind::Call => call_route(named),
+        Kind::Command => command_route(named),
+        Kind::Answer => answer_route(named),
+        Kind::Other => Route::Nowhere,
+    }
+}
+
+// The route of a telegram with this header. The list is searched in one place, so that the compiler
+// puts the search here and its answer never stands in memory.
 pub fn route_of(header: Header) -> Route
     ensures { λ r. ⌜ r ≡ routeOf header ⌝ }
 {
     let dsap = header.dsap;
     let ssap = header.ssap;
     let kind = kind_of(header.fc);
-    match kind {
-        Kind::Call => call_route(named_by(dsap, ssap)),
-        Kind::Command => command_route(named_by(dsap, ssap)),
-        Kind::Answer => answer_route(named_by(ssap, dsap)),
-        Kind::Other => Route::Nowhere,
-    }
+    let points = points_by(kind, dsap, ssap);
+    let slave = points.slave;
+    let master = points.master;
+    way_by(kind, named_by(slave, master))
 }

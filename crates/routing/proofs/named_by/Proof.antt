@@ -1,6 +1,4 @@
 -- `routing::named_by` meets its contract: by both access points.
-use mathlib.Core.Path.{ap, _∙_}
-use Rattle.access.specs.Route.{namedIn}
 use borrow.Author.Needs.{needs}
 use Rattle.routing.proofs.named_by.Statement.{statement}
 use Rattle.routing.proofs.named_by.Tie as tie
@@ -26,9 +24,6 @@ enum-known-master c = search needs
 find-requires : tie.Need-find-requires
 find-requires c κs = search needs
 
-named-in-requires : tie.Need-named-in-requires
-named-in-requires c κs = search needs
-
 returns : tie.Need-returns
 returns c = simp (c .before .before .enum-told .given .1, c .enum-told2 .given .1)
 
@@ -40,8 +35,8 @@ returns-3 c = simp (c .before .before .before .slave .given .1, c .enum-told4 .g
 
 returns-4 : tie.Need-returns-4
 returns-4 c =
-    let m = c .before .before .before in
-    simp (m .before .before .before .slave .given .1, m .master .given .1) (c .named-in .ensures ∙ ap namedIn (c .before .find .ensures))
+    let m = c .before .before in
+    simp (m .before .before .before .slave .given .1, m .master .given .1) (c .find .ensures)
 
 pub named-by-spec : {M : Type 1} → statement M
 named-by-spec =
@@ -54,7 +49,6 @@ named-by-spec =
     enum-told-4
     enum-known-master
     find-requires
-    named-in-requires
     returns
     returns-2
     returns-3
