@@ -190,14 +190,17 @@ fn way_by(kind: Kind, named: Named) -> Route
     }
 }
 
-// The route of a telegram with this header. The list is searched in one place, so that the compiler
-// puts the search here and its answer never stands in memory.
+// The route of a telegram with this header. What can carry no service is not looked up. The list is
+// searched in one place, so that the compiler puts the search here and its answer never stands in memory.
 pub fn route_of(header: Header) -> Route
     ensures { λ r. ⌜ r ≡ routeOf header ⌝ }
 {
     let dsap = header.dsap;
     let ssap = header.ssap;
     let kind = kind_of(header.fc);
+    if let Kind::Other = kind {
+        return Route::Nowhere;
+    }
     let points = points_by(kind, dsap, ssap);
     let slave = points.slave;
     let master = points.master;
