@@ -1,11 +1,12 @@
 // Writing a telegram with fields at the front of a lent slice (document 01, "Telegram layouts"), held to the
 // definitions of the crate fdl.
 ghost use mathlib.Core.Path.{_≡_};
-ghost use mathlib.Core.List.{_++_};
+ghost use mathlib.Core.List.{_++_, _∷_, []};
 ghost use Prim.Native.Nat.{_+_, _≤_};
 ghost use lib.ListN.{length, take, drop};
 ghost use Rattle.octets.specs.Front.{AtFront, answerBy, heldBy};
-ghost use Rattle.fdl.specs.Writing.{startBytes, sapBytes, addressBytes, coreOf, endBytes, closedOf, telegramOf, userStart, verdictOf};
+ghost use Rattle.fdl.specs.Telegram.{sumOf, checksumOf};
+ghost use Rattle.fdl.specs.Writing.{startBytes, sapBytes, addressBytes, coreOf, closedOf, telegramOf, userStart, verdictOf};
 ghost use Rattle.fdl.specs.Around.{userIn, headBytes};
 use fdl::Format;
 use fdl::Header;
@@ -95,34 +96,58 @@ fn put_head(header: Header, out: &mut [u8]) -> usize
     n + put_saps(dsap, ssap, &mut out[n..])
 }
 
-// Stores the checksum of the n bytes in front, and the end byte, behind them.
-fn put_end(n: usize, out: &mut [u8])
-    requires { ⌜ (n ≤ 249) × (n + 2 ≤ length (now out)) ⌝ }
-    ensures { λ _. ⌜ now (out .exit) ≡ take n (now (out .entry)) ++ endBytes (take n (now (out .entry))) ++ drop (n + 2) (now (out .entry)) ⌝ }
+fn sap_sum(sap: Sap) -> u8
+    ensures { λ r. ⌜ r ≡ sumOf (sapBytes sap) ⌝ }
 {
-    let sum = checksum(&out[..n]);
-    out[n] = sum;
+    match sap {
+        Sap::Absent => 0,
+        Sap::Present(number) => number,
+    }
+}
+
+// The checksum of DA to the last access point. It is taken from the fields: loads of bytes that were stored
+// just before in pieces would have to wait for them.
+fn head_sum(header: Header) -> u8
+    ensures { λ r. ⌜ r ≡ checksumOf (headBytes header) ⌝ }
+{
+    let dsap = header.dsap;
+    let ssap = header.ssap;
+    let da = header.da as u16 + 128 * sap_length(dsap) as u16;
+    let sa = header.sa as u16 + 128 * sap_length(ssap) as u16;
+    let saps = sap_sum(dsap) as u16 + sap_sum(ssap) as u16;
+    ((da + sa + header.fc as u16 + saps) % 256) as u8
+}
+
+// Stores the checksum and the end byte behind the n bytes in front.
+fn put_end(n: usize, fcs: u8, out: &mut [u8])
+    requires { ⌜ (n ≤ 249) × (n + 2 ≤ length (now out)) ⌝ }
+    ensures { λ _. ⌜ now (out .exit) ≡ take n (now (out .entry)) ++ (fcs ∷ 0x16 ∷ []) ++ drop (n + 2) (now (out .entry)) ⌝ }
+{
+    out[n] = fcs;
     out[n + 1] = 0x16;
 }
 
-// Makes DA to the end byte around the len bytes of user data, which stand in their place already.
-fn put_closed(header: Header, len: usize, out: &mut [u8]) -> usize
-    requires { ⌜ (header .da ≤ 127) × (header .sa ≤ 126) × (length (headBytes header) + len ≤ 249) × (length (headBytes header) + len + 2 ≤ length (now out)) ⌝ }
+// Makes DA to the end byte around the len bytes of user data, which stand in their place already and have
+// this checksum.
+fn put_closed(header: Header, sum: u8, len: usize, out: &mut [u8]) -> usize
+    requires { ⌜ (header .da ≤ 127) × (header .sa ≤ 126) × (length (headBytes header) + len ≤ 249) × (length (headBytes header) + len + 2 ≤ length (now out)) × (sum ≡ checksumOf (take len (drop (length (headBytes header)) (now out)))) ⌝ }
     ensures { λ r. ⌜ AtFront (closedOf (coreOf header (take len (drop (length (headBytes header)) (now (out .entry)))))) (now (out .entry)) (now (out .exit)) r ⌝ }
 {
+    let fcs = ((head_sum(header) as u16 + sum as u16) % 256) as u8;
     let n = put_head(header, out) + len;
-    put_end(n, out);
+    put_end(n, fcs, out);
     n + 2
 }
 
-// Makes a whole telegram around the len bytes of user data, which stand in their place already.
-fn put_around(format: Format, header: Header, len: usize, out: &mut [u8]) -> usize
-    requires { ⌜ (header .da ≤ 127) × (header .sa ≤ 126) × (length (headBytes header) + len ≤ 249) × (userStart format header + len + 2 ≤ length (now out)) ⌝ }
+// Makes a whole telegram around the len bytes of user data, which stand in their place already and have this
+// checksum.
+fn put_around(format: Format, header: Header, sum: u8, len: usize, out: &mut [u8]) -> usize
+    requires { ⌜ (header .da ≤ 127) × (header .sa ≤ 126) × (length (headBytes header) + len ≤ 249) × (userStart format header + len + 2 ≤ length (now out)) × (sum ≡ checksumOf (userIn format header len (now out))) ⌝ }
     ensures { λ r. ⌜ AtFront (telegramOf format header (userIn format header len (now (out .entry)))) (now (out .entry)) (now (out .exit)) r ⌝ }
 {
     let le = length_byte(header, len);
     let n = put_start(format, le, out);
-    n + put_closed(header, len, &mut out[n..])
+    n + put_closed(header, sum, len, &mut out[n..])
 }
 
 // Writes a telegram from its fields and user data.
@@ -138,8 +163,9 @@ pub fn write(format: Format, header: Header, user: &[u8], out: &mut [u8]) -> Wri
     if out.len() < start + len + 2 {
         return Written::Refused(11);
     }
+    let sum = checksum(user);
     octets::store_behind(start, user, out);
-    Written::Stored(put_around(format, header, len, out))
+    Written::Stored(put_around(format, header, sum, len, out))
 }
 
 // Writes a telegram around len bytes of user data that the caller has put into out from
@@ -151,8 +177,10 @@ pub fn write_around(format: Format, header: Header, len: usize, out: &mut [u8]) 
     if !writable(format, header, len) {
         return Written::Refused(12);
     }
-    if out.len() < user_start(format, header) + len + 2 {
+    let place = user_start(format, header);
+    if out.len() < place + len + 2 {
         return Written::Refused(11);
     }
-    Written::Stored(put_around(format, header, len, out))
+    let sum = checksum(&out[place..place + len]);
+    Written::Stored(put_around(format, header, sum, len, out))
 }

@@ -1,8 +1,8 @@
 -- What fields that may be written around user data are, and where the user data stand.
-use Prim.Native.Nat.{ℕ, _+_, _≤_}
+use Prim.Native.Nat.{ℕ, _+_, _%_, _≤_}
 use mathlib.Core.Path.{_≡_, sym, ap, _∙_}
 use mathlib.Core.Bool.{Bool, true, false}
-use mathlib.Core.List.{List, _++_, append-assoc}
+use mathlib.Core.List.{List, [], _∷_, _++_, append-assoc}
 use native.Mathlib.Omega.{arith}
 use lib.ListN.{length, take, drop, length-append}
 use lib.Seq.{length-take-le, drop-drop}
@@ -10,7 +10,7 @@ use borrow.Author.Tests.{le-leb}
 use Rattle.octets.specs.Choice.{and-left, and-right}
 use Rattle.octets.specs.Front.{heldBehind, fine, fault}
 use Rattle.function_code.specs.Code.{classOf}
-use Rattle.fdl.specs.Telegram.{sapLength}
+use Rattle.fdl.specs.Telegram.{sumOf, checksumOf, sapLength}
 use Rattle.fdl.specs.Writing.{startBytes, sapBytes, addressBytes, coreOf, telegramOf, userStart, goodLength, goodHeader, verdictBy, verdictOf}
 use Rattle.fdl.specs.Around.{userIn, headBytes, goodFields, user-inside, user-stored}
 use Rattle.fdl.specs.Lemmas.Fields.{Sound, sound, sap-bytes-length, start-length, start-small, pdu-small, telegram-length}
@@ -28,6 +28,18 @@ head-core h user =
     sym
     (append-assoc (addressBytes h) saps user
     ∙ ap (λ (l : List ℕ). addressBytes h ++ l) (append-assoc (sapBytes (h .dsap)) (sapBytes (h .ssap)) user))
+
+pub sum-append : (a b : List ℕ) → sumOf (a ++ b) ≡ sumOf a + sumOf b
+sum-append [] b = omega arith
+sum-append (x ∷ a) b = omega (arith, sum-append a b)
+
+-- so its checksum is that of both, modulo 256
+pub core-checksum : (h : Header) (user : List ℕ) → checksumOf (coreOf h user) ≡ (checksumOf (headBytes h) + checksumOf user) % 256
+unfolding checksumOf
+core-checksum h user =
+    let head : ℕ = sumOf (headBytes h) in
+    let whole : sumOf (coreOf h user) ≡ head + sumOf user = ap sumOf (head-core h user) ∙ sum-append (headBytes h) user in
+    omega (arith, whole)
 
 -- fields that may be written, with user data of so many bytes
 pub record Fit (f : Format) (h : Header) (user : List ℕ) (len : ℕ) : Type 0 where

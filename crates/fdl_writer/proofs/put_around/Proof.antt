@@ -3,12 +3,12 @@ use mathlib.Core.Path.{_≡_}
 use mathlib.Core.List.{List, _++_}
 use Prim.Native.Nat.{ℕ, _≤_}
 use native.Mathlib.Omega.{arith}
-use lib.ListN.{length, length-append}
+use lib.ListN.{length, take, drop, length-append}
 use denote.Ref.{now}
 use borrow.Author.Needs.{needs}
 use Rattle.octets.specs.Front.{first-fits, within, rest-fits, both, lent-rest}
 use Rattle.fdl.specs.Writing.{startBytes, coreOf, endBytes, closedOf, telegramOf}
-use Rattle.fdl.specs.Around.{userIn, user-length}
+use Rattle.fdl.specs.Around.{userIn, headBytes, user-length}
 use Rattle.fdl.specs.Lemmas.Fields.{core-length}
 use Rattle.fdl.specs.Lemmas.Around.{head-length, around-length, user-behind}
 use Rattle.fdl_writer.proofs.put_around.Statement.{statement}
@@ -53,6 +53,15 @@ fits b =
 room : (c : tie.After-length-byte) → length (startAt c ++ closedOf (coreAt (entry c))) ≤ length (now (entry c .args .out))
 room c = rw (whole c) at (fits (entry c))
 
+-- the user data stand behind the start and the head
+behind :
+    (c : tie.After-length-byte) →
+    let a = entry c .args in
+    take (a .len) (drop (length (headBytes (a .header))) (drop (length (startAt c)) (now (a .out)))) ≡ userAt (entry c)
+behind c =
+    let b = entry c in
+    user-behind (b .args .format) (b .args .header) (b .args .len) (leAt c) (now (b .args .out)) (omega (arith, b .pre .3))
+
 length-byte-requires : tie.Need-length-byte-requires
 length-byte-requires c κs = c .before .pre .2
 
@@ -80,17 +89,15 @@ put-closed-requires c κs =
     let b = entry s in
     let core = coreAt b in
     let left = rest-fits (p .put-start .ensures) (closedOf core) (room s) in
-    (b .pre .0, b .pre .1, b .pre .2, omega (arith, left, length-append core (endBytes core), le-core s))
+    let user = rw (← behind s, ← lent-rest (p .put-start .ensures)) at (b .pre .4) in
+    (b .pre .0, b .pre .1, b .pre .2, omega (arith, left, length-append core (endBytes core), le-core s), user)
 
 returns : tie.Need-returns
 returns c =
     let p = c .before .before .before .before .before .before in
     let s = p .before .before in
-    let b = entry s in
-    let a = b .args in
     let start = p .put-start .ensures in
-    let user = user-behind (a .format) (a .header) (a .len) (leAt s) (now (a .out)) (omega (arith, b .pre .3)) in
-    rw (whole s, ← user, ← lent-rest start) (both start (c .before .before .put-closed .ensures))
+    rw (whole s, ← behind s, ← lent-rest start) (both start (c .before .before .put-closed .ensures))
 
 add-result : tie.Need-add-result
 add-result c =

@@ -1,6 +1,6 @@
 -- `fdl_writer::write` meets its contract. The test of the fields is the verdict, what is added up is the length of the
 -- telegram, and the telegram is made around the user data, which it covers.
-use mathlib.Core.Path.{refl, sym, _∙_}
+use mathlib.Core.Path.{refl, sym, ap, _∙_}
 use mathlib.Core.List.{List}
 use Prim.Native.Nat.{ℕ}
 use native.Mathlib.Omega.{arith}
@@ -9,6 +9,7 @@ use denote.Ref.{now}
 use borrow.Author.Needs.{needs}
 use borrow.Author.Tests.{not-true, not-false}
 use Rattle.octets.specs.Front.{refused, too-small, stored, covered}
+use Rattle.fdl.specs.Telegram.{checksumOf}
 use Rattle.fdl.specs.Writing.{telegramOf}
 use Rattle.fdl.specs.Lemmas.Around.{Fit, fit, unfit, user-held}
 use Rattle.fdl_writer.proofs.write.Statement.{statement}
@@ -61,13 +62,23 @@ returns-2 c =
     let b = entry (e .before) in
     rw (fitting e .verdict) (too-small (bytesAt b) (now (b .args .out)) (omega (arith, fitting e .total)))
 
+checksum-requires : tie.Need-checksum-requires
+checksum-requires c κs = search needs
+
 store-behind-requires : tie.Need-store-behind-requires
 store-behind-requires c κs = search needs
 
 put-around-requires : tie.Need-put-around-requires
 put-around-requires c κs =
-    let g = fitting (c .before .before .before .before .before .before .before) in
-    (g .header .da, g .header .sa, g .core, omega arith)
+    let s = c .before .before .before in
+    let k = s .before .before in
+    let u = k .before .before in
+    let b = entry (u .before .before) in
+    let a = b .args in
+    let g = fitting (u .before) in
+    let held = s .store-behind .ensures .1 in
+    let user = user-held (a .format) (a .header) (u .user-start .result) (userAt b) (now (a .out)) (u .user-start .ensures) (omega arith) held in
+    (g .header .da, g .header .sa, g .core, omega arith, k .checksum .ensures ∙ ap checksumOf (sym user))
 
 same-length : tie.Need-same-length
 same-length c = search needs
@@ -76,7 +87,7 @@ returns-3 : tie.Need-returns-3
 returns-3 c =
     let p = c .before .before in
     let s = p .before .before .before .before in
-    let u = s .before .before .before in
+    let u = s .before .before .before .before in
     let b = entry (u .before .before) in
     let a = b .args in
     let g = fitting (u .before) in
@@ -96,6 +107,7 @@ write-spec =
     add-if2
     add-if2-2
     returns-2
+    checksum-requires
     store-behind-requires
     put-around-requires
     same-length

@@ -1,16 +1,17 @@
 -- `fdl_writer::write_around` meets its contract. The test of the fields is the verdict, and what is added up is the
 -- length of the telegram.
-use mathlib.Core.Path.{_≡_, sym, _∙_}
+use mathlib.Core.Path.{_≡_, sym, ap, ap₂, _∙_}
 use mathlib.Core.List.{List}
-use Prim.Native.Nat.{ℕ}
+use Prim.Native.Nat.{ℕ, _+_, _-_}
 use native.Mathlib.Omega.{arith}
-use lib.ListN.{length}
+use lib.ListN.{length, take, drop}
 use denote.Ref.{now}
 use borrow.Author.Needs.{needs}
 use borrow.Author.Tests.{not-true, not-false}
 use Rattle.octets.specs.Front.{refused, too-small, stored}
+use Rattle.fdl.specs.Telegram.{checksumOf}
 use Rattle.fdl.specs.Writing.{telegramOf}
-use Rattle.fdl.specs.Around.{userIn, user-length}
+use Rattle.fdl.specs.Around.{userIn, user-length, user-inside}
 use Rattle.fdl.specs.Lemmas.Around.{Fit, fit, unfit}
 use Rattle.fdl_writer.proofs.write_around.Statement.{statement}
 use Rattle.fdl_writer.proofs.write_around.Tie as tie
@@ -62,10 +63,34 @@ returns-2 c =
     let b = entry (e .before) in
     rw (fitting e .verdict) (too-small (bytesAt b) (now (b .args .out)) (omega (arith, fitting e .total)))
 
+add-checksum : tie.Need-add-checksum
+add-checksum c = omega (arith, fitting (c .before .before) .most)
+
+sub-checksum : tie.Need-sub-checksum
+sub-checksum c = search needs
+
+part-checksum-start : tie.Need-part-checksum-start
+part-checksum-start c = search needs
+
+part-checksum-end : tie.Need-part-checksum-end
+part-checksum-end c = search needs
+
+checksum-requires : tie.Need-checksum-requires
+checksum-requires c κs = search needs
+
 put-around-requires : tie.Need-put-around-requires
 put-around-requires c κs =
-    let g = fitting (c .before .before .before) in
-    (g .header .da, g .header .sa, g .core, omega arith)
+    let k = c .before in
+    let u = k .before .before .before .before in
+    let a = entry (u .before .before) .args in
+    let place = u .user-start .result in
+    let g = fitting (u .before) in
+    let long : place + a .len - place ≡ a .len = omega arith in
+    let user =
+    ap₂ (λ (n k : ℕ). take n (drop k (now (a .out)))) long (u .user-start .ensures)
+    ∙ sym (user-inside (a .format) (a .header) (a .len) (now (a .out)) (omega arith))
+    in
+    (g .header .da, g .header .sa, g .core, omega arith, k .checksum .ensures ∙ ap checksumOf user)
 
 same-length : tie.Need-same-length
 same-length c = search needs
@@ -73,7 +98,7 @@ same-length c = search needs
 returns-3 : tie.Need-returns-3
 returns-3 c =
     let p = c .before .before in
-    let e = p .before .before .before .before in
+    let e = p .before .before .before .before .before .before .before in
     rw (fitting e .verdict) (stored (omega (arith, fitting e .total)) (p .put-around .ensures))
 
 pub write-around-spec : {M : Type 1} → statement M
@@ -86,6 +111,11 @@ write-around-spec =
     add-if2
     add-if2-2
     returns-2
+    add-checksum
+    sub-checksum
+    part-checksum-start
+    part-checksum-end
+    checksum-requires
     put-around-requires
     same-length
     returns-3)
