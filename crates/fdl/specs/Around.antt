@@ -2,7 +2,7 @@
 use Prim.Native.Nat.{ℕ, _+_, _≤_, _<_}
 use mathlib.Core.Path.{_≡_, refl, ap, _∙_}
 use mathlib.Core.Bool.{Bool, true, false}
-use mathlib.Core.List.{List, _++_, append-assoc}
+use mathlib.Core.List.{List, [], _++_, append-assoc}
 use native.Mathlib.Omega.{arith}
 use lib.ListN.{length, take, drop, replicate, length-append, length-drop, length-replicate}
 use lib.Seq.{length-take-le, take-append-le, take-append-seam, drop-at}
@@ -48,6 +48,10 @@ module _ (f : Format) (h : Header) where
   pub user-length : (len : ℕ) (out : List ℕ) → length (userIn f h len out) ≡ len
   unfolding userIn
   user-length len out = rw padded
+
+  pub user-none : (out : List ℕ) → userIn f h 0 out ≡ []
+  unfolding userIn
+  user-none out = refl
 
   -- Where out reaches so far, they are its bytes.
   pub user-inside : (len : ℕ) (out : List ℕ) → userStart f h + len ≤ length out → userIn f h len out ≡ take len (drop (userStart f h) out)

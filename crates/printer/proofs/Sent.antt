@@ -7,14 +7,14 @@ use lib.ListN.{length, drop, length-drop}
 use lib.Seq.{length-take-le}
 use borrow.Rule.Slice.PartMut.{midOf, putMid}
 use borrow.Author.Tests.{le-leb}
-use Rattle.octets.specs.Front.{Verdict, fine, AtFront, answerBy, heldBy, heldBehind, all-behind, covered}
+use Rattle.octets.specs.Front.{Verdict, fine, AtFront, answerBy, heldBy}
 use Rattle.octets.specs.declared.Written.{Written}
 use Rattle.octets.specs.declared.Written.the-variants.{Stored}
 use Rattle.function_code.specs.Code.{classOf, isReserved}
 use Rattle.function_code.specs.declared.code.Class.the-variants as class
 use Rattle.fdl.specs.Around.{userIn}
 use Rattle.fdl.specs.Laws.{telegram-reads-back, data-inside}
-use Rattle.fdl.specs.Lemmas.Around.{around-length, user-held}
+use Rattle.fdl.specs.Lemmas.Around.{around-length, good-fields}
 use Rattle.fdl.specs.Writing.{telegramOf, userStart, verdictOf}
 use Rattle.fdl.specs.declared.telegram.Format.{Format}
 use Rattle.fdl.specs.declared.telegram.Format.the-variants.{Sd2}
@@ -23,9 +23,9 @@ use Rattle.access.specs.Route.{headerOf}
 use Rattle.access.specs.declared.table.Service.the-variants as service
 use Rattle.content.specs.Writing.{bytesFor}
 use Rattle.content.specs.declared.fields.Content.the-variants as content
+use Rattle.service.specs.Lemmas.Placed.{data-placed}
 use Rattle.protocol.specs.Check.{storedIn}
 use Rattle.protocol.specs.Lemmas.Read.{writable, result-header, reply-class}
-use Rattle.protocol.specs.Lemmas.Slots.{held-long}
 use Rattle.protocol.specs.Telegrams.{replyCode, answerOf}
 use Rattle.protocol.specs.declared.printer.Outcome.{Outcome}
 use Rattle.protocol.specs.declared.printer.Outcome.the-variants as outcome
@@ -56,11 +56,6 @@ as-said {l = l} {after} {count} e f = subst (λ (p : List ℕ). AtFront p l afte
 pub short : (f : Format) (h : Header) (user : List ℕ) → verdictOf f h user ≡ fine → length (telegramOf f h user) ≤ 255
 short f h user e = data-inside classOf (telegramOf f h user) (telegram-reads-back classOf f h user e) .most
 
--- a telegram without user data is made around none
-pub none-in : (f : Format) (h : Header) (out : List ℕ) → userIn f h 0 out ≡ []
-unfolding userIn
-none-in f h out = refl
-
 pub bare-class : (s : Status) → classOf (functionOf s) ≡ class.Bare
 unfolding classOf
 bare-class status.Ok = refl
@@ -79,31 +74,21 @@ module _ (f : Format) (h : Header) (d out : List ℕ) (e : verdictOf f h d ≡ f
   pub place-fits : start + length d + 2 ≤ 255
   place-fits = omega (arith, around-length f h d refl, short f h d e)
 
-  inside : start + length d ≤ length out
-  inside = omega (arith, place-fits)
-
   module _ {m : List ℕ} {n : ℕ} (front : AtFront d (midOf start (length out - start) out) m n) where
     abbrev placed : List ℕ
     placed = putMid start (length out - start) out m
 
-    held : placed ≡ heldBehind start d out
-    held = all-behind start out inside front .1
-
-    long : length placed ≡ length out
-    long = ap length held ∙ held-long start d out inside
-
-    user : userIn f h n placed ≡ d
-    user = ap (λ (k : ℕ). userIn f h k placed) (front .counted) ∙ user-held f h start d out place inside held
-
     module _ {w : Written} (a : w ≡ answerBy (verdictOf f h (userIn f h n placed)) (telegramOf f h (userIn f h n placed)) (length placed)) where
+      made : {after : List ℕ} → after ≡ heldBy (verdictOf f h (userIn f h n placed)) (telegramOf f h (userIn f h n placed)) placed
+          → (w ≡ answerBy fine (telegramOf f h d) (length out)) × (after ≡ heldBy fine (telegramOf f h d) out)
+      made b = data-placed f h d out start place (good-fields f h d e) (omega (arith, place-fits)) front a b
+
       pub around-small : storedIn w ≤ 255
-      around-small = small (telegramOf f h d) placed e (short f h d e) (omega (arith, long)) (rw user at a)
+      around-small = small (telegramOf f h d) out refl (short f h d e) room (made refl .0)
 
       pub around-sent : {after : List ℕ} {count : ℕ} → after ≡ heldBy (verdictOf f h (userIn f h n placed)) (telegramOf f h (userIn f h n placed)) placed
           → count ≡ storedIn w → AtFront (telegramOf f h d) out after count
-      around-sent b c =
-          covered start d out inside (omega (arith, around-length f h d refl, place)) held
-          (sent (telegramOf f h d) placed e (short f h d e) (omega (arith, long)) (rw user at a) (rw user at b) c)
+      around-sent b c = sent (telegramOf f h d) out refl (short f h d e) room (made b .0) (made b .1) c
 
 -- ---- results
 

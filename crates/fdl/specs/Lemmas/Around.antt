@@ -1,6 +1,6 @@
 -- What fields that may be written around user data are, and where the user data stand.
 use Prim.Native.Nat.{ℕ, _+_, _%_, _≤_}
-use mathlib.Core.Path.{_≡_, sym, ap, _∙_}
+use mathlib.Core.Path.{_≡_, refl, sym, ap, _∙_}
 use mathlib.Core.Bool.{Bool, true, false}
 use mathlib.Core.List.{List, [], _∷_, _++_, append-assoc}
 use native.Mathlib.Omega.{arith}
@@ -9,6 +9,7 @@ use lib.Seq.{length-take-le, drop-drop}
 use borrow.Author.Tests.{le-leb}
 use Rattle.octets.specs.Choice.{and-left, and-right}
 use Rattle.octets.specs.Front.{heldBehind, fine, fault}
+use Rattle.octets.specs.Fixed.{fault-fine}
 use Rattle.function_code.specs.Code.{classOf}
 use Rattle.fdl.specs.Telegram.{sumOf, checksumOf, sapLength}
 use Rattle.fdl.specs.Writing.{startBytes, sapBytes, addressBytes, coreOf, telegramOf, userStart, goodLength, goodHeader, verdictBy, verdictOf}
@@ -72,6 +73,13 @@ module _ (f : Format) (h : Header) (user : List ℕ) {len : ℕ} (e : length use
   pub unfit : goodFields f h len ≡ false → verdictOf f h user ≡ fault 12
   unfolding verdictBy
   unfit g = rw e (simp g)
+
+pub good-fields : (f : Format) (h : Header) (user : List ℕ) → verdictOf f h user ≡ fine → goodFields f h (length user) ≡ true
+good-fields f h user e = by _ refl
+  where
+    by : (b : Bool) → goodFields f h (length user) ≡ b → b ≡ true
+    by true g = refl
+    by false g = absurd (fault-fine (sym (unfit f h user refl g) ∙ e))
 
 -- behind the start and the head stand the user data
 pub user-behind : (f : Format) (h : Header) (len le : ℕ) (out : List ℕ) → userStart f h + len ≤ length out

@@ -146,3 +146,12 @@ module _ (f : Format) (h : Header) (d out : List ℕ) (start : ℕ) (place : sta
       let last = stored (omega (arith, good .total, place)) (covered start d out fits (omega (arith, good .total, place)) held front) in
       (answered ∙ t .0 ∙ last .0, last .1)
   data-stored (fault k) g room a b c e = absurd (refused-stored (sym a))
+
+  -- and so by a function that was given room for them
+  pub data-placed : {n : ℕ} {m after : List ℕ} {r : Written} → goodFields f h (length d) ≡ true → start + length d + 2 ≤ length out
+      → AtFront d (lentOf start out) m n
+      → let placed = backIn start out m in
+      r ≡ answerBy (telegram.verdictOf f h (userIn f h n placed)) (telegram.telegramOf f h (userIn f h n placed)) (length placed)
+      → after ≡ heldBy (telegram.verdictOf f h (userIn f h n placed)) (telegram.telegramOf f h (userIn f h n placed)) placed
+      → Outcome f h d out fine r after
+  data-placed g room front c e = let s = stored (lent-fits room) front in data-stored fine g room (s .0) (s .1) c e

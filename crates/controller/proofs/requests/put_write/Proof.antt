@@ -1,11 +1,17 @@
 -- `controller::requests::put_write` meets its contract: what is found is template k, and its write may be written.
-use mathlib.Core.Path.{sym, _∙_}
+use mathlib.Core.Path.{sym, ap, _∙_}
 use mathlib.Core.List.{List}
 use Prim.Native.Nat.{ℕ}
+use native.Mathlib.Omega.{arith}
+use lib.ListN.{length}
 use denote.Ref.{now}
+use Rattle.fdl.specs.declared.telegram.Format.the-variants.{Sd2}
+use Rattle.acyclic.specs.declared.calls.Call.the-variants as call
 use Rattle.book.specs.Contents.{templatesOf}
+use Rattle.content.specs.declared.fields.Content.the-variants as content
+use Rattle.service.specs.Writing.{telegramFor}
 use Rattle.controller_state.specs.Templates.{left-from, Holds, holds, none-left}
-use Rattle.controller.proofs.Written.{write-may}
+use Rattle.controller.proofs.Written.{may, write-may}
 use borrow.Author.Needs.{needs}
 use Rattle.controller.proofs.requests.put_write.Statement.{statement}
 use Rattle.controller.proofs.requests.put_write.Tie as tie
@@ -45,20 +51,25 @@ counted-code-requires c κs = search needs
 part-requires : tie.Need-part-requires
 part-requires c κs = search needs
 
-put-requires : tie.Need-put-requires
-put-requires c κs =
+put-body-requires : tie.Need-put-body-requires
+put-body-requires c κs =
     let p = c .before in
     let f = p .before in
     let k = f .before in
     let b = entry k in
+    let s = b .args .settings in
     let h = held k in
-    write-may (b .args .settings .printer) (b .args .settings .controller) (b .pre .0 .printer) (b .pre .0 .controller) (b .args .fcb)
-    (f .counted-code .ensures) (h .slot) (p .part .ensures ∙ h .part) (h .nonempty) (h .short)
+    let body = p .part .ensures ∙ h .part in (
+      omega (arith, ap length body, h .short),
+      may Sd2 (s .printer) (s .controller) _ (content.Dpv1Call (call.Write 1 _)) _
+          (write-may (s .printer) (s .controller) (b .pre .0 .printer) (b .pre .0 .controller) (b .args .fcb) (f .counted-code .ensures) (h .slot) body (h .nonempty) (h .short)),
+    )
 
 same-length : tie.Need-same-length
 same-length c = search needs
 
 returns-2 : tie.Need-returns-2
+unfolding telegramFor
 returns-2 c =
     let w = c .before .before in
     let p = w .before .before in
@@ -66,7 +77,7 @@ returns-2 c =
     let k = f .before in
     let b = entry k in
     let h = held k in
-    rw (left-from (templatesOf (bookAt b)) (b .args .template) (b .pre .2) (h .most), ← f .counted-code .ensures, ← (p .part .ensures ∙ h .part), ← h .slot) (w .put .ensures)
+    rw (left-from (templatesOf (bookAt b)) (b .args .template) (b .pre .2) (h .most), ← f .counted-code .ensures, ← (p .part .ensures ∙ h .part), ← h .slot) (w .put-body .ensures)
 
 pub put-write-spec : {M : Type 1} → statement M
-put-write-spec = tie.close (tie.spec listed-requires enum-known-found enum-told returns counted-code-requires part-requires put-requires same-length returns-2)
+put-write-spec = tie.close (tie.spec listed-requires enum-known-found enum-told returns counted-code-requires part-requires put-body-requires same-length returns-2)

@@ -4,6 +4,7 @@ use mathlib.Core.List.{List, []}
 use Prim.Native.Nat.{ℕ}
 use borrow.Author.Needs.{needs}
 use Rattle.octets.specs.Front.{fine}
+use Rattle.fdl.specs.Around.{user-none}
 use Rattle.fdl.specs.Writing.{telegramOf, verdictOf}
 use Rattle.fdl.specs.declared.telegram.Format.the-variants.{Sd1}
 use Rattle.fdl.specs.declared.telegram.Header.{Header}
@@ -11,7 +12,7 @@ use Rattle.fdl.specs.declared.telegram.Sap.the-variants.{Absent}
 use Rattle.access.specs.Route.{headerWith}
 use Rattle.protocol.specs.MachineLaws.Replies.{bare-fine}
 use Rattle.printer_rules.specs.Meaning.{functionOf}
-use Rattle.printer.proofs.Sent.{small, sent, short, none-in, bare-class}
+use Rattle.printer.proofs.Sent.{small, sent, short, bare-class}
 use Rattle.printer.proofs.replies.say_bare.Statement.{statement}
 use Rattle.printer.proofs.replies.say_bare.Tie as tie
 
@@ -37,7 +38,7 @@ stored-requires c κs =
     let w = c .before .before in
     let f = w .before .before in
     let b = f .before .before in
-    small (bytesAt f) (b .args .out .now) (fineAt f) (short Sd1 (headerAt f) [] (fineAt f)) (b .pre .room) (rw (none-in Sd1 (headerAt f) (b .args .out .now)) at (w .write-around .ensures .0))
+    small (bytesAt f) (b .args .out .now) (fineAt f) (short Sd1 (headerAt f) [] (fineAt f)) (b .pre .room) (rw (user-none Sd1 (headerAt f) (b .args .out .now)) at (w .write-around .ensures .0))
 
 same-length : tie.Need-same-length
 same-length c = search needs
@@ -47,7 +48,7 @@ returns c =
     let w = c .before .before .before in
     let f = w .before .before in
     let b = f .before .before in
-    let n = none-in Sd1 (headerAt f) (b .args .out .now) in
+    let n = user-none Sd1 (headerAt f) (b .args .out .now) in
     rw (f .function-of .ensures) at
     (sent (bytesAt f) (b .args .out .now) (fineAt f) (short Sd1 (headerAt f) [] (fineAt f)) (b .pre .room) (rw n at (w .write-around .ensures .0)) (rw n at (w .write-around .ensures .1)) (c .stored .ensures))
 
