@@ -12,7 +12,7 @@ use Rattle.fdl.specs.declared.telegram.Header.{Header}
 use Rattle.fdl.specs.declared.telegram.Sap.{Sap}
 use Rattle.fdl.specs.declared.telegram.Sap.the-variants.{Absent, Present}
 use Rattle.access.specs.Table.{look, services, rowAt, pointsIn, pointsOf}
-use Rattle.access.specs.Route.{pointsWith, namedBy, kindOf, isGlobalControl, callRoute, commandRoute, answerFrom, answerRoute, routeBy, routeOf, headerBy, headerOf}
+use Rattle.access.specs.Route.{pointsWith, namedBy, kindOf, isGlobalControl, callRoute, commandRoute, answerFrom, answerRoute, wayBy, routeBy, routeOf, headerBy, headerOf, serviceRoute}
 use Rattle.access.specs.declared.table.Service.{Service}
 use Rattle.access.specs.declared.table.Service.the-variants as service
 use Rattle.access.specs.declared.table.Row.{Row}
@@ -120,13 +120,11 @@ answer-leads service.SlaveDiag = refl
 answer-leads service.SetPrm = tt
 answer-leads service.ChkCfg = tt
 
-leads-by : (s : Service) (da sa fc : ℕ) (k : Kind) →
-    let h = headerBy k da sa fc (pointsOf s) in
-    Leads s (routeBy k (h .dsap) (h .ssap))
-leads-by s da sa fc kind.Call = rw (points-named s) (call-leads s)
-leads-by s da sa fc kind.Command = rw (points-named s) (command-leads s)
-leads-by s da sa fc kind.Answer = rw (points-named s) (answer-leads s)
-leads-by s da sa fc kind.Other = tt
+leads-by : (s : Service) (k : Kind) → Leads s (wayBy k (Is s))
+leads-by s kind.Call = call-leads s
+leads-by s kind.Command = command-leads s
+leads-by s kind.Answer = answer-leads s
+leads-by s kind.Other = tt
 
 module _ (s : Service) (da sa fc : ℕ) where
   -- the code of a header is the one that it was made with
@@ -139,10 +137,22 @@ module _ (s : Service) (da sa fc : ℕ) where
     code-by kind.Answer = refl
     code-by kind.Other = refl
 
-  -- The header of a service's telegram leads to the service, or nowhere: to no other.
+  -- The route of that header is the one by service and code: its access points name the service.
+  pub header-route : routeOf (headerOf s da sa fc) ≡ serviceRoute s fc
+  unfolding headerOf routeOf serviceRoute
+  header-route = rw header-code (route-by (kindOf fc)) where
+    route-by : (k : Kind) →
+        let h = headerBy k da sa fc (pointsOf s) in
+        routeBy k (h .dsap) (h .ssap) ≡ wayBy k (Is s)
+    route-by kind.Call = rw (points-named s)
+    route-by kind.Command = rw (points-named s)
+    route-by kind.Answer = rw (points-named s)
+    route-by kind.Other = refl
+
+  -- It leads to the service, or nowhere: to no other.
   pub header-leads : Leads s (routeOf (headerOf s da sa fc))
-  unfolding headerOf routeOf
-  header-leads = rw header-code (leads-by s da sa fc (kindOf fc))
+  unfolding serviceRoute
+  header-leads = rw header-route (leads-by s (kindOf fc))
 
 -- the header is the one that a service has by this kind of code
 abbrev AgainBy : Kind → Header → Route → Type 0

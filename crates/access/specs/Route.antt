@@ -128,3 +128,7 @@ headerBy kind.Other da sa fc p = headerWith da sa fc (p .slave) (p .master)
 
 unfoldable pub headerOf : Service → (da sa fc : ℕ) → Header
 headerOf s da sa fc = headerBy (kindOf fc) da sa fc (pointsOf s)
+
+-- and the route of that header, from the service and the code alone (law `header-route`)
+unfoldable pub serviceRoute : Service → (fc : ℕ) → Route
+serviceRoute s fc = wayBy (kindOf fc) (Is s)

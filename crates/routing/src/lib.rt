@@ -1,7 +1,7 @@
 // Which service a telegram's function code and access points name, and which way it goes (document 01,
 // "Services by access point").
 ghost use mathlib.Core.Path.{_≡_};
-ghost use Rattle.access.specs.Route.{uncountedKind, kindOf, namedBy, isGlobalControl, callRoute, commandRoute, answerFrom, answerRoute, pointsWith, pointsBy, wayBy, routeOf, headerWith, headerOf};
+ghost use Rattle.access.specs.Route.{uncountedKind, kindOf, namedBy, isGlobalControl, callRoute, commandRoute, answerFrom, answerRoute, pointsWith, pointsBy, wayBy, routeOf, headerWith, headerOf, serviceRoute};
 use access::Answering;
 use access::Kind;
 use access::Named;
@@ -205,4 +205,11 @@ pub fn route_of(header: Header) -> Route
     let slave = points.slave;
     let master = points.master;
     way_by(kind, named_by(slave, master))
+}
+
+// The route of a telegram that is made for this service with this function code: no list has to be searched.
+pub fn route_for(service: Service, fc: u8) -> Route
+    ensures { λ r. ⌜ r ≡ serviceRoute service fc ⌝ }
+{
+    way_by(kind_of(fc), Named::Is(service))
 }

@@ -90,11 +90,12 @@ pub fn write(
     ensures answer { λ r. ⌜ r ≡ answerBy (verdictOf format da sa fc content (now (part .entry))) (telegramFor format da sa fc content (now (part .entry))) (length (now (out .entry))) ⌝ }
     ensures bytes { λ _. ⌜ now (out .exit) ≡ heldBy (verdictOf format da sa fc content (now (part .entry))) (telegramFor format da sa fc content (now (part .entry))) (now (out .entry)) ⌝ }
 {
-    let header = routing::header_of(content::service_of(content), da, sa, fc);
+    let service = content::service_of(content);
+    let header = routing::header_of(service, da, sa, fc);
     if !fitting(format, header, content, part.len()) {
         return Written::Refused(12);
     }
-    let route = routing::route_of(header);
+    let route = routing::route_for(service, fc);
     match route {
         Route::Nowhere => Written::Refused(10),
         Route::Call(_) => write_way(Way::Call, format, header, content, part, out),

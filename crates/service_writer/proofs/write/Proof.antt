@@ -9,6 +9,7 @@ use Rattle.octets.specs.Front.{Verdict, refused}
 use Rattle.fdl.specs.Around.{goodFields}
 use Rattle.fdl.specs.Writing.{telegramOf}
 use Rattle.fdl.specs.declared.telegram.Header.{Header}
+use Rattle.access.specs.Laws.{header-route}
 use Rattle.access.specs.Route.{routeOf, headerOf}
 use Rattle.access.specs.declared.route.Route.{Route}
 use Rattle.access.specs.declared.table.Service.{Service}
@@ -52,14 +53,17 @@ fields : (c : tie.Else1) →
     goodFields (a .format) (e .header-of .result) (fixedLength (a .content) + length (now (a .part))) ≡ true
 fields c = sym (c .before .fitting .ensures) ∙ not-false _ (c .if1 .left)
 
-routed : (c : tie.After-route-of) {r : Route} → c .route-of .result ≡ r →
+routed : (c : tie.After-route-for) {r : Route} → c .route-for .result ≡ r →
     let e = c .before .before .before in
     let a = entry e .args in
     verdictAt e ≡ routeVerdict r (a .content) (now (a .part))
 routed c {r} g =
     let e = c .before .before .before in
     let a = entry e .args in
-    let route : routeOf (headerFor (a .da) (a .sa) (a .fc) (a .content)) ≡ r = ap routeOf (sym (made e)) ∙ sym (c .route-of .ensures) ∙ g in
+    let service = e .before .service-of in
+    let route : routeOf (headerFor (a .da) (a .sa) (a .fc) (a .content)) ≡ r =
+    ap routeOf (sym (made e) ∙ e .header-of .ensures) ∙ header-route (service .result) (a .da) (a .sa) (a .fc) ∙ sym (c .route-for .ensures) ∙ g
+    in
     let good = ap (λ (h : Header). goodFields (a .format) h (fixedLength (a .content) + length (now (a .part)))) (sym (made e)) ∙ fields (c .before) in
     good-fields (a .format) (a .da) (a .sa) (a .fc) (a .content) (now (a .part)) good
     ∙ ap (λ (x : Route). routeVerdict x (a .content) (now (a .part))) route
@@ -80,8 +84,8 @@ returns c =
     let bad = sym (c .before .fitting .ensures) ∙ not-true _ (c .if1 .taken) in
     rw (bad-fields (a .format) (a .da) (a .sa) (a .fc) (a .content) (now (a .part)) (rw (made e) at bad)) (refused 12 _ _)
 
-route-of-requires : tie.Need-route-of-requires
-route-of-requires c κs = search needs
+route-for-requires : tie.Need-route-for-requires
+route-for-requires c κs = search needs
 
 enum-told : tie.Need-enum-told
 enum-told c = search needs
@@ -129,7 +133,7 @@ write-spec =
     header-of-requires
     fitting-requires
     returns
-    route-of-requires
+    route-for-requires
     enum-told
     enum-told-2
     write-way-requires
