@@ -1,5 +1,7 @@
 // What is judged before any change.
 ghost use mathlib.Core.Path.{_≡_};
+ghost use lib.Dec.{ltb};
+ghost use Rattle.octets.specs.Choice.{_or_};
 ghost use Rattle.protocol.specs.Check.{verdictIn};
 ghost use Rattle.protocol.specs.Printer.{isRefused, lending, verdictOf};
 ghost use Rattle.protocol.specs.Slots.{tooLong};
@@ -7,19 +9,28 @@ use diagnosis::Reading;
 use protocol::Check;
 use protocol::Printer;
 
-// Whether a slot length is above 200.
+// Whether this slot length is above 200, or one before it was.
+fn longer(length: u8, long: bool) -> bool
+    ensures { λ r. ⌜ r ≡ (ltb 200 length or long) ⌝ }
+{
+    if 200 < length {
+        return true;
+    }
+    long
+}
+
+// Whether a slot length is above 200. All are looked at, so that the compiler compares them at once.
 fn long_slot(lengths: &[u8; 16]) -> bool
     ensures { λ r. ⌜ r ≡ tooLong (now (lengths .entry)) ⌝ }
 {
     let all = &lengths[..];
+    let mut long = false;
     let mut i: usize = 0;
     while i < all.len() {
-        if 200 < all[i] {
-            return true;
-        }
+        long = longer(all[i], long);
         i += 1;
     }
-    false
+    long
 }
 
 fn is_refused(reading: Reading) -> bool
