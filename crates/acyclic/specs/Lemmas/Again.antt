@@ -54,23 +54,24 @@ module _ {C A : Type 0} {s : List ℕ} (w : Way C A s) where
   idle-again h e c f =
       front-again 1 h c (w .verdict c (length s - 1)) (λ good. (good, f ∙ ap (λ (n : ℕ). n ∷ []) (sym e) ∙ sym (part-elements 1 0 s h)))
 
-  module _ (long : 4 ≤ length s) {n : ℕ} (other : A) (rest : w .Holds other) (c : C) where
+  module _ (long : 4 ≤ length s) {n : ℕ} (c : C) (other : A) where
     in-front : {l : ℕ} → getD s 0 0 ≡ n → getD s 3 0 ≡ l → four n (getD s 1 0) (getD s 2 0) l ≡ take 4 s
     in-front e f =
         ap₂ (λ (m l : ℕ). four m (getD s 1 0) (getD s 2 0) l) (sym e) (sym f) ∙ sym (part-elements 4 0 s long)
 
     -- four fixed bytes that are all fields
-    pub plain-again : w .fixed c (length s - 4) ≡ four n (getD s 1 0) (getD s 2 0) (getD s 3 0)
+    pub plain-again : w .fixed c (length s - 4) ≡ four n (getD s 1 0) (getD s 2 0) (getD s 3 0) → w .Holds other
         → w .Holds (pick (eqb (getD s 0 0) n) (judged (w .refuse) (w .verdict c (length s - 4)) (w .accept c 4 (length s - 4))) other)
-    plain-again f =
+    plain-again f rest =
         by-pick (w .Holds) (eqb (getD s 0 0) n)
         (λ t. front-again 4 long c (w .verdict c (length s - 4)) (λ good. (good, f ∙ in-front (eqb-true _ _ t) (cc))))
         (λ _. rest)
 
     -- four fixed bytes, the last of them the count
-    pub counted-again : (least : ℕ) → w .verdict c (length s - 4) ≡ countedOf least (length s - 4) → w .fixed c (length s - 4) ≡ four n (getD s 1 0) (getD s 2 0) (length s - 4)
+    pub counted-again : (least : ℕ) → w .verdict c (length s - 4) ≡ countedOf least (length s - 4)
+        → w .fixed c (length s - 4) ≡ four n (getD s 1 0) (getD s 2 0) (length s - 4) → w .Holds other
         → w .Holds (pick (eqb (getD s 0 0) n) (judged (w .refuse) (countedAsOf (getD s 3 0) least (length s - 4)) (w .accept c 4 (length s - 4))) other)
-    counted-again least v f =
+    counted-again least v f rest =
         by-pick (w .Holds) (eqb (getD s 0 0) n)
         (λ t. front-again 4 long c (countedAsOf (getD s 3 0) least (length s - 4))
         (λ good.

@@ -69,7 +69,7 @@ module _ (s : List ℕ) where
   failed-again : 4 ≤ length s → (f : Function) → eqb (getD s 0 0) (negativeNumber f) ≡ true
       → AgainIn s (negativeFor (failed.Is f) (getD s 1 0) (getD s 2 0) (getD s 3 0) (length s - 4))
   failed-again long f e =
-      rw e at (plain-again (answers s) long {n = negativeNumber f} (refused 28) tt (answer.Negative f (getD s 1 0) (getD s 2 0) (getD s 3 0)) refl)
+      rw e at (plain-again (answers s) long (answer.Negative f _ _ _) (refused 28) refl tt)
 
   negative-again : 4 ≤ length s → AgainIn s (negativeFor (failedBy (getD s 0 0)) (getD s 1 0) (getD s 2 0) (getD s 3 0) (length s - 4))
   unfolding failedBy
@@ -84,16 +84,10 @@ module _ (s : List ℕ) where
   four-again : 4 ≤ length s → AgainIn s (fourOf (getD s 0 0) (getD s 1 0) (getD s 2 0) (getD s 3 0) (length s - 4))
   unfolding fourOf
   four-again long =
-      let a = getD s 1 0 in
-      let b = getD s 2 0 in
-      let l = getD s 3 0 in
-      counted-again (answers s) long {n = readNumber} _
-      (plain-again (answers s) long {n = writeNumber} _
-      (plain-again (answers s) long {n = alarmAckNumber} _
-      (counted-again (answers s) long {n = transportNumber} _ (negative-again long) (answer.Transport a b) 0 refl refl)
-      (answer.AlarmAck a b l) refl)
-      (answer.Write a b l) refl)
-      (answer.Read a b) 0 refl refl
+      counted-again (answers s) long (answer.Read _ _) _ 0 refl refl
+      (plain-again (answers s) long (answer.Write _ _ _) _ refl
+      (plain-again (answers s) long (answer.AlarmAck _ _ _) _ refl
+      (counted-again (answers s) long (answer.Transport _ _) _ 0 refl refl (negative-again long))))
 
   pub again : AgainIn s (readAnswerOf s)
   unfolding readAnswerOf

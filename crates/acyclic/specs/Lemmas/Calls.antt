@@ -96,16 +96,10 @@ module _ (s : List ℕ) where
   four-again : 4 ≤ length s → AgainIn s (fourOf (getD s 0 0) (getD s 1 0) (getD s 2 0) (getD s 3 0) (length s - 4))
   unfolding fourOf
   four-again long =
-      let a = getD s 1 0 in
-      let b = getD s 2 0 in
-      let l = getD s 3 0 in
-      plain-again (calls s) long {n = readNumber} _
-      (counted-again (calls s) long {n = writeNumber} _
-      (plain-again (calls s) long {n = alarmAckNumber} _
-      (counted-again (calls s) long {n = transportNumber} _ tt (call.Transport a b) 0 refl refl)
-      (call.AlarmAck a b l) refl)
-      (call.Write a b) 1 refl refl)
-      (call.Read a b l) refl
+      plain-again (calls s) long (call.Read _ _ _) _ refl
+      (counted-again (calls s) long (call.Write _ _) _ 1 refl refl
+      (plain-again (calls s) long (call.AlarmAck _ _ _) _ refl
+      (counted-again (calls s) long (call.Transport _ _) _ 0 refl refl tt)))
 
   pub again : AgainIn s (readCallOf s)
   unfolding readCallOf
