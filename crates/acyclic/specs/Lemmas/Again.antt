@@ -28,31 +28,28 @@ part-count s start len e =
     let fits : start ≤ length s = omega arith in
     ap (λ (k : ℕ). length (partOf s start k)) m ∙ omega (arith, part-long start s fits)
 
--- One of the two ways: its fields, its readings, and what is to hold of a reading of s.
-pub record Way (C A : Type 0) (s : List ℕ) : Type 1 where
-  pub fixed : C → ℕ → List ℕ
-  pub verdict : C → ℕ → Verdict
-  pub refuse : ℕ → A
-  pub accept : C → (start len : ℕ) → A
+-- What is to hold of a reading of s, in one of the two ways.
+pub record Way {C A : Type 0} (fixed : C → ℕ → List ℕ) (verdict : C → ℕ → Verdict) (refuse : ℕ → A) (accept : C → (start len : ℕ) → A) (s : List ℕ) : Type 1 where
   pub Holds : A → Type 0
   pub of-refusals : (k : ℕ) → Holds (refuse k)
   pub of-accepted : (c : C) (start len : ℕ) → Again fixed verdict s c start len → Holds (accept c start len)
 
-module _ {C A : Type 0} {s : List ℕ} (w : Way C A s) where
+module _ {C A : Type 0} {fixed : C → ℕ → List ℕ} {verdict : C → ℕ → Verdict} {refuse : ℕ → A} {accept : C → (start len : ℕ) → A} {s : List ℕ}
+    (w : Way fixed verdict refuse accept s) where
   -- it is enough that k fixed bytes are those in front of s
-  front-again : (k : ℕ) → k ≤ length s → (c : C) (v : Verdict) → (v ≡ fine → (w .verdict c (length s - k) ≡ fine) × (w .fixed c (length s - k) ≡ take k s))
-      → w .Holds (judged (w .refuse) v (w .accept c k (length s - k)))
+  front-again : (k : ℕ) → k ≤ length s → (c : C) (v : Verdict) → (v ≡ fine → (verdict c (length s - k) ≡ fine) × (fixed c (length s - k) ≡ take k s))
+      → w .Holds (judged refuse v (accept c k (length s - k)))
   front-again k fits c v h =
       by-verdict (w .Holds) v (w .of-refusals)
       (λ good.
       let e : length (partOf s k (length s - k)) ≡ length s - k = part-count s k (length s - k) (omega arith) in
-      w .of-accepted c k (length s - k) (ap (w .verdict c) e ∙ h good .0, part-tiles k s fits (ap (w .fixed c) e ∙ h good .1), omega arith))
+      w .of-accepted c k (length s - k) (ap (verdict c) e ∙ h good .0, part-tiles k s fits (ap (fixed c) e ∙ h good .1), omega arith))
 
   -- a number alone
-  pub idle-again : 1 ≤ length s → {n : ℕ} → getD s 0 0 ≡ n → (c : C) → w .fixed c (length s - 1) ≡ n ∷ []
-      → w .Holds (judged (w .refuse) (w .verdict c (length s - 1)) (w .accept c 1 (length s - 1)))
+  pub idle-again : 1 ≤ length s → {n : ℕ} → getD s 0 0 ≡ n → (c : C) → fixed c (length s - 1) ≡ n ∷ []
+      → w .Holds (judged refuse (verdict c (length s - 1)) (accept c 1 (length s - 1)))
   idle-again h e c f =
-      front-again 1 h c (w .verdict c (length s - 1)) (λ good. (good, f ∙ ap (λ (n : ℕ). n ∷ []) (sym e) ∙ sym (part-elements 1 0 s h)))
+      front-again 1 h c (verdict c (length s - 1)) (λ good. (good, f ∙ ap (λ (n : ℕ). n ∷ []) (sym e) ∙ sym (part-elements 1 0 s h)))
 
   module _ (long : 4 ≤ length s) {n : ℕ} (c : C) (other : A) where
     in-front : {l : ℕ} → getD s 0 0 ≡ n → getD s 3 0 ≡ l → four n (getD s 1 0) (getD s 2 0) l ≡ take 4 s
@@ -60,17 +57,17 @@ module _ {C A : Type 0} {s : List ℕ} (w : Way C A s) where
         ap₂ (λ (m l : ℕ). four m (getD s 1 0) (getD s 2 0) l) (sym e) (sym f) ∙ sym (part-elements 4 0 s long)
 
     -- four fixed bytes that are all fields
-    pub plain-again : w .fixed c (length s - 4) ≡ four n (getD s 1 0) (getD s 2 0) (getD s 3 0) → w .Holds other
-        → w .Holds (pick (eqb (getD s 0 0) n) (judged (w .refuse) (w .verdict c (length s - 4)) (w .accept c 4 (length s - 4))) other)
+    pub plain-again : fixed c (length s - 4) ≡ four n (getD s 1 0) (getD s 2 0) (getD s 3 0) → w .Holds other
+        → w .Holds (pick (eqb (getD s 0 0) n) (judged refuse (verdict c (length s - 4)) (accept c 4 (length s - 4))) other)
     plain-again f rest =
         by-pick (w .Holds) (eqb (getD s 0 0) n)
-        (λ t. front-again 4 long c (w .verdict c (length s - 4)) (λ good. (good, f ∙ in-front (eqb-true _ _ t) (cc))))
+        (λ t. front-again 4 long c (verdict c (length s - 4)) (λ good. (good, f ∙ in-front (eqb-true _ _ t) (cc))))
         (λ _. rest)
 
     -- four fixed bytes, the last of them the count
-    pub counted-again : (least : ℕ) → w .verdict c (length s - 4) ≡ countedOf least (length s - 4)
-        → w .fixed c (length s - 4) ≡ four n (getD s 1 0) (getD s 2 0) (length s - 4) → w .Holds other
-        → w .Holds (pick (eqb (getD s 0 0) n) (judged (w .refuse) (countedAsOf (getD s 3 0) least (length s - 4)) (w .accept c 4 (length s - 4))) other)
+    pub counted-again : (least : ℕ) → verdict c (length s - 4) ≡ countedOf least (length s - 4)
+        → fixed c (length s - 4) ≡ four n (getD s 1 0) (getD s 2 0) (length s - 4) → w .Holds other
+        → w .Holds (pick (eqb (getD s 0 0) n) (judged refuse (countedAsOf (getD s 3 0) least (length s - 4)) (accept c 4 (length s - 4))) other)
     counted-again least v f rest =
         by-pick (w .Holds) (eqb (getD s 0 0) n)
         (λ t. front-again 4 long c (countedAsOf (getD s 3 0) least (length s - 4))
@@ -85,7 +82,7 @@ module _ {C A : Type 0} {s : List ℕ} (w : Way C A s) where
       (length s ≡ 0 → w .Holds none) →
       (1 ≤ length s → getD s 0 0 ≡ idleNumber → w .Holds (idle (length s - 1))) →
       (4 ≤ length s → w .Holds (fourBytes (getD s 0 0) (getD s 1 0) (getD s 2 0) (getD s 3 0) (length s - 4))) →
-      w .Holds (whereAllowed (w .refuse) none allowed (byNumber (w .refuse) idle fourBytes s) s)
+      w .Holds (whereAllowed refuse none allowed (byNumber refuse idle fourBytes s) s)
   unfolding byNumber whereAllowed
   by-reading none allowed idle fourBytes p q r =
       by-pick (w .Holds) (eqb (length s) 0) (λ t. p (eqb-true _ _ t))

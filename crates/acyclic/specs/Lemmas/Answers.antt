@@ -52,17 +52,8 @@ abbrev pub AgainIn : List ℕ → AnswerReading → Type 0
 AgainIn s (reading.Answer x start len) = Again fixedBytes verdictOf s x start len
 AgainIn s (reading.Refused r) = Unit
 
-abbrev answers : (s : List ℕ) → Way Answer AnswerReading s
-answers s =
-    record {
-      fixed = fixedBytes;
-      verdict = verdictOf;
-      refuse = refused;
-      accept = reading.Answer;
-      Holds = AgainIn s;
-      of-refusals = λ k. tt;
-      of-accepted = λ x start len a. a;
-    }
+abbrev answers : (s : List ℕ) → Way fixedBytes verdictOf refused reading.Answer s
+answers s = record { Holds = AgainIn s; of-refusals = λ k. tt; of-accepted = λ x start len a. a }
 
 module _ (s : List ℕ) where
   -- of the function that the number names

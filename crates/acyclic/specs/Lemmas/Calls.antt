@@ -75,17 +75,8 @@ abbrev pub AgainIn : List ℕ → CallReading → Type 0
 AgainIn s (reading.Call c start len) = Again fixedBytes verdictOf s c start len
 AgainIn s (reading.Refused r) = Unit
 
-abbrev calls : (s : List ℕ) → Way Call CallReading s
-calls s =
-    record {
-      fixed = fixedBytes;
-      verdict = verdictOf;
-      refuse = refused;
-      accept = reading.Call;
-      Holds = AgainIn s;
-      of-refusals = λ k. tt;
-      of-accepted = λ c start len a. a;
-    }
+abbrev calls : (s : List ℕ) → Way fixedBytes verdictOf refused reading.Call s
+calls s = record { Holds = AgainIn s; of-refusals = λ k. tt; of-accepted = λ c start len a. a }
 
 empty-again : (s : List ℕ) → length s ≡ 0 → AgainIn s none
 unfolding partOf aloneOf
