@@ -67,6 +67,11 @@ pub none-behind : (n : ℕ) (q l : List ℕ) → length l < n + length q → (0 
 unfolding countBehind heldBehind
 none-behind n q l h = (simp (lt-leb _ _ h), simp (lt-leb _ _ h))
 
+-- q stored behind the first n bytes leaves l as long as it was
+pub held-length : (n : ℕ) (q l : List ℕ) → n + length q ≤ length l → length (heldBehind n q l) ≡ length l
+unfolding heldBehind
+held-length n q l h = simp (le-leb _ _ h, length-append, length-take-le n l (omega arith), length-drop) (omega arith)
+
 -- stores one after the other from the front
 pub stores : (p l : List ℕ) → length p ≤ length l → AtFront p l (sets l 0 p) (length p)
 stores p l h =
@@ -111,6 +116,10 @@ first-fits p q h = omega (arith, length-append p q)
 lent : (n : ℕ) (l : List ℕ) → midOf n (length l - n) l ≡ drop n l
 lent n l = rw (← length-drop n l) (take-length (drop n l))
 
+-- how much that is
+pub lent-length : (n : ℕ) (l : List ℕ) → length (midOf n (length l - n) l) ≡ length l - n
+lent-length n l = ap length (lent n l) ∙ length-drop n l
+
 -- and what l holds when that comes back as m
 back : (n : ℕ) (l m : List ℕ) → putMid n (length l - n) l m ≡ take n l ++ m
 back n l m = rw (← length-drop n l, drop-length (drop n l), append-nil)
@@ -130,7 +139,7 @@ module _ {p l a : List ℕ} {n : ℕ} (f : AtFront p l a n) where
 
   -- so q fits in what is lent from n on
   pub rest-fits : (q : List ℕ) → length (p ++ q) ≤ length l → length q ≤ length (midOf n (length a - n) a)
-  rest-fits q h = rw (lent n a) (omega (arith, length-drop n a, within q h))
+  rest-fits q h = omega (arith, lent-length n a, within q h)
 
   -- q stored right behind p
   pub behind : (q : List ℕ) {after : List ℕ} → after ≡ p ++ q ++ drop (n + length q) a → AtFront (p ++ q) l after (n + length q)

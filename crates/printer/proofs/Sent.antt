@@ -3,8 +3,7 @@ use mathlib.Core.Path.{_≡_, refl, ap, _∙_, subst}
 use mathlib.Core.List.{List, []}
 use Prim.Native.Nat.{ℕ, _+_, _-_, _≤_}
 use native.Mathlib.Omega.{arith}
-use lib.ListN.{length, drop, length-drop}
-use lib.Seq.{length-take-le}
+use lib.ListN.{length}
 use borrow.Rule.Slice.PartMut.{midOf, putMid}
 use borrow.Author.Tests.{le-leb}
 use Rattle.octets.specs.Front.{Verdict, fine, AtFront, answerBy, heldBy}
@@ -62,10 +61,6 @@ bare-class status.Ok = refl
 bare-class status.UserError = refl
 bare-class status.NoResource = refl
 bare-class status.NoService = refl
-
--- what is lent from n on
-pub lent-length : (n : ℕ) (l : List ℕ) → length (midOf n (length l - n) l) ≡ length l - n
-lent-length n l = length-take-le (length l - n) (drop n l) (omega (arith, length-drop n l))
 
 -- ---- user data that were stored in their place, and the telegram that was made around them
 

@@ -7,7 +7,7 @@ use native.Mathlib.Decide.{decLt}
 use lib.ListN.{length, take, drop, length-append, length-drop, length-set, take-append-drop}
 use lib.Seq.{length-take-le, take-append-le, drop-append-le, take-append-add, drop-at, drop-drop, take-add, getD-set-same, getD-set-other}
 use borrow.Author.Tests.{le-leb}
-use Rattle.octets.specs.Front.{over, heldBehind}
+use Rattle.octets.specs.Front.{over, heldBehind, held-length}
 use Rattle.protocol.specs.Slots.{Slots, slotIn, written, filled, Sized}
 
 -- q in l behind the first n bytes
@@ -24,9 +24,6 @@ module _ (n : ℕ) (q l : List ℕ) (fits : n + length q ≤ length l) where
 
   both-long : length (take n l ++ q) ≡ n + length q
   both-long = rw (length-append, front-long)
-
-  pub held-long : length (heldBehind n q l) ≡ length l
-  held-long = rw (held, length-append, both-long, length-drop) (omega arith)
 
   -- bytes that end before it
   pub before-held : (p k : ℕ) → p + k ≤ n → take k (drop p (heldBehind n q l)) ≡ take k (drop p l)
@@ -68,7 +65,7 @@ module _ (s : Slots) (z : Sized s) (i : ℕ) (body : List ℕ) (slot : i ≤ 15)
 
   pub written-sized : Sized (written i body s)
   written-sized =
-      record { lengths = length-set (s .lengths) i (length body) ∙ z .lengths; bodies = held-long (200 * i) body (s .bodies) fits ∙ z .bodies }
+      record { lengths = length-set (s .lengths) i (length body) ∙ z .lengths; bodies = held-length (200 * i) body (s .bodies) fits ∙ z .bodies }
 
   pub slot-written : slotIn (written i body s) i ≡ filled body (slotIn s i)
   slot-written =

@@ -5,13 +5,12 @@ use mathlib.Core.Bool.{true}
 use mathlib.Core.List.{List, [], _∷_, append-nil}
 use native.Mathlib.Omega.{arith}
 use native.Mathlib.Nat.{add-zero}
-use lib.ListN.{length, take, drop, length-append, length-drop, take-append-drop}
-use lib.Seq.{length-take-le}
+use lib.ListN.{length, take-append-drop}
 use lib.Dec.{leb}
 use borrow.Rule.Slice.PartMut.{midOf, putMid}
 use borrow.Author.Tests.{le-leb, lt-leb}
 use Rattle.octets.specs.Choice.{by-pick}
-use Rattle.octets.specs.Front.{Verdict, fine, fault, AtFront, over, answerBy, heldBy, heldBehind, all-behind, covered, stored, too-small}
+use Rattle.octets.specs.Front.{Verdict, fine, fault, AtFront, over, answerBy, heldBy, heldBehind, held-length, lent-length, all-behind, covered, stored, too-small}
 use Rattle.octets.specs.declared.Written.{Written}
 use Rattle.octets.specs.declared.Written.the-variants.{Stored, Refused}
 use Rattle.fdl.specs.Around.{userIn, goodFields}
@@ -37,22 +36,11 @@ kept n l h =
     let fits : n + 0 ≤ length l = omega arith in
     all-behind n l fits none .1 ∙ simp (le-leb _ _ fits) (rw (append-nil, add-zero) (take-append-drop n l))
 
--- how much was lent
-lent-length : (n : ℕ) (l : List ℕ) → n ≤ length l → length (lentOf n l) ≡ length l - n
-lent-length n l h = length-take-le (length l - n) (drop n l) (omega (arith, length-drop n l))
-
 -- a slice of no bytes holds none
 none-held : (d l : List ℕ) → length l ≡ 0 → heldBy fine d l ≡ l
 unfolding heldBy
 none-held [] l e = by-pick (λ (x : List ℕ). x ≡ l) (leb 0 (length l)) (λ _. refl) (λ _. refl)
 none-held (x ∷ d) l e = let no : length l < length (x ∷ d) = omega arith in simp (lt-leb _ _ no)
-
--- what was stored behind the first n bytes leaves the slice as long as it was
-held-length : (n : ℕ) (q l : List ℕ) → n + length q ≤ length l → length (heldBehind n q l) ≡ length l
-unfolding heldBehind
-held-length n q l h =
-    let front : length (take n l) ≡ n = length-take-le n l (omega arith) in
-    simp (le-leb _ _ h, length-append, front, length-drop) (omega arith)
 
 -- ---- answers of the data's writer
 
@@ -94,7 +82,7 @@ module _ (f : Format) (h : Header) (d out : List ℕ) where
   without-room fine {r} g small a b =
       let total : length (telegram.telegramOf f h d) ≡ telegram.userStart f h + length d + 2 = fit f h d refl g .total in
       let lost = too-small (telegram.telegramOf f h d) out (omega arith) in
-      let none : length (lentOf (length out) out) ≡ 0 = lent-length (length out) out (omega arith) ∙ omega arith in
+      let none : length (lentOf (length out) out) ≡ 0 = lent-length (length out) out ∙ omega arith in
       let same : backIn (length out) out (lentOf (length out) out) ≡ out = kept (length out) out (omega arith) in (
         ap noRoom a ∙ no-room-fine d (length (lentOf (length out) out)) ∙ lost .0,
         ap (backIn (length out) out) (b ∙ none-held d (lentOf (length out) out) none) ∙ same ∙ lost .1,
@@ -105,7 +93,7 @@ module _ (f : Format) (h : Header) (d out : List ℕ) where
 module _ (f : Format) (h : Header) (d out : List ℕ) (start : ℕ) (place : start ≡ telegram.userStart f h) where
   -- there is room for the data where there is for the telegram
   lent-fits : start + length d + 2 ≤ length out → length d ≤ length (lentOf (start) out)
-  lent-fits room = omega (arith, lent-length (start) out (omega arith))
+  lent-fits room = omega (arith, lent-length start out)
 
   stored-all : start + length d + 2 ≤ length out →
       let l = lentOf (start) out in

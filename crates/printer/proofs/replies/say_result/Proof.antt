@@ -6,7 +6,7 @@ use native.Mathlib.Omega.{arith}
 use lib.ListN.{length}
 use denote.Ref.{now}
 use borrow.Author.Needs.{needs}
-use Rattle.octets.specs.Front.{fine}
+use Rattle.octets.specs.Front.{fine, lent-length}
 use Rattle.fdl.specs.Writing.{telegramOf, verdictOf}
 use Rattle.fdl.specs.declared.telegram.Format.the-variants.{Sd2}
 use Rattle.fdl.specs.declared.telegram.Header.{Header}
@@ -14,7 +14,7 @@ use Rattle.content.specs.Writing.{bytesFor}
 use Rattle.content.specs.declared.fields.Content.the-variants as content
 use Rattle.protocol.specs.Lemmas.Read.{outcome-telegram}
 use Rattle.protocol.specs.Telegrams.{answerOf}
-use Rattle.printer.proofs.Sent.{as-said, lent-length, place-fits, around-small, around-sent, result-long, result-fine}
+use Rattle.printer.proofs.Sent.{as-said, place-fits, around-small, around-sent, result-long, result-fine}
 use Rattle.printer.proofs.replies.say_result.Statement.{statement}
 use Rattle.printer.proofs.replies.say_result.Tie as tie
 
