@@ -6,15 +6,12 @@ use native.Mathlib.Omega.{arith}
 use lib.ListN.{length-set}
 use denote.Ref.{now}
 use borrow.Author.Needs.{needs}
-use Rattle.octets.specs.Number.{bytesOf}
 use Rattle.octets.specs.Front.{stores, too-small, stored}
 use Rattle.typed_writer.proofs.writing.write8.Statement.{statement}
 use Rattle.typed_writer.proofs.writing.write8.Tie as tie
 
 returns : tie.Need-returns
-returns c =
-    let a = c .before .args in
-    too-small (a .code ∷ bytesOf 1 (a .pattern)) (now (a .out)) (c .if1 .taken)
+returns c = too-small _ _ (c .if1 .taken)
 
 slice-write-out : tie.Need-slice-write-out
 slice-write-out c = search needs
