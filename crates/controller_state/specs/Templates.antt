@@ -13,6 +13,7 @@ use Rattle.octets.specs.declared.Refusal.{Refusal}
 use Rattle.book.specs.Contents.{Entry, InOrder, templatesOf}
 use Rattle.book.specs.Laws.{templates-in-order, template-is, listed-is}
 use Rattle.book.specs.Template.{refused, listedOf, templateOf, startOf}
+use Rattle.book.specs.declared.answers.Template.{Template}
 use Rattle.book.specs.declared.answers.Template.the-variants.{Is, Refused}
 use Rattle.controller_state.specs.Accepted.{Accepted}
 
@@ -56,8 +57,8 @@ module _ (s : List ℕ) (k : ℕ) (book : Accepted s) (some : 1 ≤ k) where
     pub nonempty : 1 ≤ length (the .body)
     pub short : length (the .body) ≤ 200
 
-  pub holds : {x start len : ℕ} → listedOf s k ≡ Is x start len → Holds x start len
-  holds {x} {start} {len} l = by (ltb (length (templatesOf s)) k) refl
+  pub holds : {t : Template} {x start len : ℕ} → t ≡ listedOf s k → t ≡ Is x start len → Holds x start len
+  holds {t} {x} {start} {len} e l = by (ltb (length (templatesOf s)) k) refl
     where
       by : (b : Bool) → ltb (length (templatesOf s)) k ≡ b → Holds x start len
       by true g = let p = listed-is s book k ∙ past (ltb-true _ _ g) in absurd (let z : _≡_ {A = ℕ} 0 1 = cc in omega arith)
@@ -65,7 +66,7 @@ module _ (s : List ℕ) (k : ℕ) (book : Accepted s) (some : 1 ≤ k) where
           let most : k ≤ length (templatesOf s) = ltb-false _ _ g in
           let inside : k - 1 < length (templatesOf s) = omega arith in
           let f = template-is s book none (k - 1) inside in
-          let same : Is x start len ≡ Is (the .slot) (startOf s (k - 1)) (length (the .body)) = sym l ∙ listed-is s book k ∙ there most in
+          let same : Is x start len ≡ Is (the .slot) (startOf s (k - 1)) (length (the .body)) = sym l ∙ e ∙ listed-is s book k ∙ there most in
           let slot : x ≡ the .slot = cc in
           let begins : start ≡ startOf s (k - 1) = cc in
           let long : len ≡ length (the .body) = cc in
@@ -80,9 +81,14 @@ module _ (s : List ℕ) (k : ℕ) (book : Accepted s) (some : 1 ≤ k) where
           }
 
   -- where none is found, none is left
-  pub none-left : {r : Refusal} → listedOf s k ≡ Refused r → drop (k - 1) (templatesOf s) ≡ []
-  none-left {r} l = by (ltb (length (templatesOf s)) k) refl
+  pub none-left : {t : Template} {r : Refusal} → t ≡ listedOf s k → t ≡ Refused r → drop (k - 1) (templatesOf s) ≡ []
+  none-left e l = by (ltb (length (templatesOf s)) k) refl
     where
       by : (b : Bool) → ltb (length (templatesOf s)) k ≡ b → drop (k - 1) (templatesOf s) ≡ []
       by true g = drop-of-length-le (templatesOf s) {i = k - 1} (omega (arith, ltb-true (length (templatesOf s)) k g))
       by false g = let p = listed-is s book k ∙ there (ltb-false _ _ g) in absurd (let z : _≡_ {A = ℕ} 0 1 = cc in omega arith)
+
+-- where one is found, it is left with those behind it
+pub one-left : {s : List ℕ} {k : ℕ} {book : Accepted s} {some : 1 ≤ k} {x start len : ℕ} → Holds s k book some x start len
+    → drop (k - 1) (templatesOf s) ≡ getD (templatesOf s) (k - 1) none ∷ drop k (templatesOf s)
+one-left {s} {k} {some = some} h = left-from (templatesOf s) k some (h .most)

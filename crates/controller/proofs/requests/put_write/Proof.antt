@@ -1,16 +1,13 @@
 -- `controller::requests::put_write` meets its contract: what is found is template k, and its write may be written.
-use mathlib.Core.Path.{sym, ap, _∙_}
-use mathlib.Core.List.{List}
-use Prim.Native.Nat.{ℕ}
+use mathlib.Core.Path.{ap, _∙_}
 use native.Mathlib.Omega.{arith}
 use lib.ListN.{length}
 use denote.Ref.{now}
 use Rattle.fdl.specs.declared.telegram.Format.the-variants.{Sd2}
 use Rattle.acyclic.specs.declared.calls.Call.the-variants as call
-use Rattle.book.specs.Contents.{templatesOf}
 use Rattle.content.specs.declared.fields.Content.the-variants as content
 use Rattle.service.specs.Writing.{telegramFor}
-use Rattle.controller_state.specs.Templates.{left-from, Holds, holds, none-left}
+use Rattle.controller_state.specs.Templates.{Holds, holds, none-left, one-left}
 use Rattle.controller.proofs.Written.{may, write-may}
 use borrow.Author.Needs.{needs}
 use Rattle.controller.proofs.requests.put_write.Statement.{statement}
@@ -19,16 +16,11 @@ use Rattle.controller.proofs.requests.put_write.Tie as tie
 abbrev entry : tie.After-known-told → tie.Start
 entry c = c .before .before .before .before .before .before
 
-abbrev bookAt : tie.Start → List ℕ
-bookAt b = now (b .args .book)
-
 held : (c : tie.After-known-told) →
     let b = entry c in
     let f = c .before .found .given .0 in
-    Holds (bookAt b) (b .args .template) (b .pre .1) (b .pre .2) (f .0) (f .1 .0) (f .1 .1 .0)
-held c =
-    let b = entry c in
-    holds (bookAt b) (b .args .template) (b .pre .1) (b .pre .2) (sym (c .before .before .before .listed .ensures) ∙ c .before .found .given .1)
+    Holds (now (b .args .book)) (b .args .template) (b .pre .1) (b .pre .2) (f .0) (f .1 .0) (f .1 .1 .0)
+held c = holds _ _ (entry c .pre .1) (entry c .pre .2) (c .before .before .before .listed .ensures) (c .before .found .given .1)
 
 listed-requires : tie.Need-listed-requires
 listed-requires c κs = search needs
@@ -43,7 +35,7 @@ returns : tie.Need-returns
 returns c =
     let t = c .before .before in
     let b = t .before .before .before in
-    rw (none-left (bookAt b) (b .args .template) (b .pre .1) (b .pre .2) (sym (t .listed .ensures) ∙ c .enum-told .given .1))
+    rw (none-left _ _ (b .pre .1) (b .pre .2) (t .listed .ensures) (c .enum-told .given .1))
 
 counted-code-requires : tie.Need-counted-code-requires
 counted-code-requires c κs = search needs
@@ -74,10 +66,8 @@ returns-2 c =
     let w = c .before .before in
     let p = w .before .before in
     let f = p .before in
-    let k = f .before in
-    let b = entry k in
-    let h = held k in
-    rw (left-from (templatesOf (bookAt b)) (b .args .template) (b .pre .2) (h .most), ← f .counted-code .ensures, ← (p .part .ensures ∙ h .part), ← h .slot) (w .put-body .ensures)
+    let h = held (f .before) in
+    rw (one-left h, ← f .counted-code .ensures, ← (p .part .ensures ∙ h .part), ← h .slot) (w .put-body .ensures)
 
 pub put-write-spec : {M : Type 1} → statement M
 put-write-spec = tie.close (tie.spec listed-requires enum-known-found enum-told returns counted-code-requires part-requires put-body-requires same-length returns-2)
