@@ -35,7 +35,7 @@ use Rattle.content.specs.declared.reading.UserData.the-variants as user-data
 use Rattle.service.specs.Reading.{placedAt, routedBy}
 use Rattle.service.specs.declared.reading.Way.{Way}
 use Rattle.service.specs.declared.reading.Way.the-variants as way
-use Rattle.protocol.specs.Controller.{Got, gotOf, other}
+use Rattle.protocol.specs.Controller.{gotOf, other}
 use Rattle.protocol.specs.Controller as controller
 use Rattle.controller_input.specs.Meaning.{gotOfData, gotOfRoute}
 

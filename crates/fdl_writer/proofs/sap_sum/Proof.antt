@@ -1,9 +1,6 @@
 -- `fdl_writer::sap_sum` meets its contract. The definition has the same two cases.
-use mathlib.Core.Path.{sym, ap, _∙_}
 use native.Mathlib.Omega.{arith}
 use borrow.Author.Needs.{needs}
-use Rattle.fdl.specs.Telegram.{sumOf}
-use Rattle.fdl.specs.Writing.{sapBytes}
 use Rattle.fdl_writer.proofs.sap_sum.Statement.{statement}
 use Rattle.fdl_writer.proofs.sap_sum.Tie as tie
 
