@@ -22,16 +22,17 @@ fn access_point(s: &[u8], address: u8, start: usize, len: usize) -> Extension
     ensures { λ r. ⌜ r ≡ extensionOf (now (s .entry)) address start len ⌝ }
 {
     if address < 128 {
-        return Extension::Is(Sap::Absent);
+        Extension::Is(Sap::Absent)
+    } else if len == 0 {
+        Extension::Refused(Refusal { number: 9 })
+    } else {
+        let sap = s[start];
+        if 63 < sap {
+            Extension::Refused(Refusal { number: 9 })
+        } else {
+            Extension::Is(Sap::Present(sap))
+        }
     }
-    if len == 0 {
-        return Extension::Refused(Refusal { number: 9 });
-    }
-    let sap = s[start];
-    if 63 < sap {
-        return Extension::Refused(Refusal { number: 9 });
-    }
-    Extension::Is(Sap::Present(sap))
 }
 
 // SA's access point: the last byte that can be refused.
@@ -123,20 +124,20 @@ fn token(s: &[u8]) -> Reading
     ensures { λ r. ⌜ r ≡ tokenOf (now (s .entry)) ⌝ }
 {
     if s.len() < 3 {
-        return Reading::Refused(Refusal { number: 1 });
+        Reading::Refused(Refusal { number: 1 })
+    } else if 3 < s.len() {
+        Reading::Refused(Refusal { number: 4 })
+    } else {
+        let da = s[1];
+        let sa = s[2];
+        if 126 < da {
+            Reading::Refused(Refusal { number: 7 })
+        } else if 126 < sa {
+            Reading::Refused(Refusal { number: 7 })
+        } else {
+            Reading::Token { da, sa }
+        }
     }
-    if 3 < s.len() {
-        return Reading::Refused(Refusal { number: 4 });
-    }
-    let da = s[1];
-    if 126 < da {
-        return Reading::Refused(Refusal { number: 7 });
-    }
-    let sa = s[2];
-    if 126 < sa {
-        return Reading::Refused(Refusal { number: 7 });
-    }
-    Reading::Token { da, sa }
 }
 
 // Where DA stands.

@@ -26,4 +26,4 @@ returns-4 c = simp (le-ltb _ _ (c .before .before .before .if1 .left), ne-eqb _ 
 
 pub access-point-spec : {M : Type 1} → statement M
 access-point-spec =
-    tie.close (tie.spec returns returns-2 shared-slice-read-sap returns-3 returns-4)
+    tie.close (tie.spec shared-slice-read-sap returns returns-2 returns-3 returns-4)

@@ -16,33 +16,33 @@ returns-2 c = simp (le-ltb _ _ (c .before .if1 .left), lt-ltb _ _ (c .if2 .taken
 shared-slice-read-da : tie.Need-shared-slice-read-da
 shared-slice-read-da c = search needs
 
-returns-3 : tie.Need-returns-3
-unfolding tokenOf
-returns-3 c = simp (le-ltb _ _ (c .before .before .before .if1 .left), le-ltb _ _ (c .before .before .if2 .left), lt-ltb _ _ (c .if3 .taken))
-
 shared-slice-read-sa : tie.Need-shared-slice-read-sa
 shared-slice-read-sa c = search needs
+
+returns-3 : tie.Need-returns-3
+unfolding tokenOf
+returns-3 c = simp (le-ltb _ _ (c .before .before .before .before .if1 .left), le-ltb _ _ (c .before .before .before .if2 .left), lt-ltb _ _ (c .if3 .taken))
 
 returns-4 : tie.Need-returns-4
 unfolding tokenOf
 returns-4 c =
-    let b = c .before .before in
-    simp (le-ltb _ _ (b .before .before .before .if1 .left), le-ltb _ _ (b .before .before .if2 .left), le-ltb _ _ (b .if3 .left), lt-ltb _ _ (c .if4 .taken))
+    let b = c .before in
+    simp (le-ltb _ _ (b .before .before .before .before .if1 .left), le-ltb _ _ (b .before .before .before .if2 .left), le-ltb _ _ (b .if3 .left), lt-ltb _ _ (c .if4 .taken))
 
 returns-5 : tie.Need-returns-5
 unfolding tokenOf
 returns-5 c =
-    let b = c .before .before in
-    simp (le-ltb _ _ (b .before .before .before .if1 .left), le-ltb _ _ (b .before .before .if2 .left), le-ltb _ _ (b .if3 .left), le-ltb _ _ (c .if4 .left))
+    let b = c .before in
+    simp (le-ltb _ _ (b .before .before .before .before .if1 .left), le-ltb _ _ (b .before .before .before .if2 .left), le-ltb _ _ (b .if3 .left), le-ltb _ _ (c .if4 .left))
 
 pub token-spec : {M : Type 1} → statement M
 token-spec =
     tie.close
     (tie.spec
+    shared-slice-read-da
+    shared-slice-read-sa
     returns
     returns-2
-    shared-slice-read-da
     returns-3
-    shared-slice-read-sa
     returns-4
     returns-5)
