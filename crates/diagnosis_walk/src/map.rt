@@ -5,18 +5,19 @@ ghost use lib.ListN.{length};
 ghost use Rattle.diagnosis.specs.Map.{setOf, lowestOf};
 use diagnosis::Lowest;
 
-// The number of modules that report.
+// The number of modules that report. It has 16 bits, and not as many as the answer, so that the compiler counts
+// eight bytes at once.
 pub(crate) fn set_bits(map: &[u8]) -> usize
     requires { ⌜ length (now map) ≤ 62 ⌝ }
     ensures { λ r. ⌜ r ≡ setOf (now (map .entry)) ⌝ }
 {
-    let mut set: usize = 0;
+    let mut set: u16 = 0;
     let mut i = 0;
     while i < map.len() {
-        set += u8::count_ones(map[i]) as usize;
+        set += u8::count_ones(map[i]) as u16;
         i += 1;
     }
-    set
+    set as usize
 }
 
 // The lowest module that reports. A byte without a set bit has eight trailing zeros, so the sum of

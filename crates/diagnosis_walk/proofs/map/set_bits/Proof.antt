@@ -46,6 +46,9 @@ loop-again c =
     let i = c .before .before .loop .i in
     omega (arith, few c, count-byte map i (c .before .loop-test .taken) (c .shared-slice-known .given i .fits))
 
+cast-result : tie.Need-cast-result Inv-loop μ-loop
+cast-result c = omega (arith, c .before .before .pre)
+
 returns : tie.Need-returns Inv-loop μ-loop
 unfolding countFrom
 returns c =
@@ -67,4 +70,5 @@ set-bits-spec =
     add-i
     loop-less
     loop-again
+    cast-result
     returns)
