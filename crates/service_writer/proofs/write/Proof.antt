@@ -1,21 +1,31 @@
 -- `service_writer::write` meets its contract: the test of the fields is the verdict's first, and each route has its line.
-use mathlib.Core.Path.{_≡_, sym, ap, _∙_}
+use mathlib.Core.Path.{_≡_, refl, sym, ap, _∙_}
 use mathlib.Core.Bool.{true}
-use Prim.Native.Nat.{_+_}
+use mathlib.Core.List.{List, [], _∷_}
+use Prim.Native.Nat.{ℕ, _+_}
+use native.Mathlib.Omega.{arith}
 use lib.ListN.{length}
+use types.Run.{OneOf, miss}
+use denote.Enum.Declared as Declared
 use denote.Ref.{now}
-use borrow.Author.Tests.{not-true, not-false}
 use Rattle.octets.specs.Front.{Verdict, refused}
 use Rattle.fdl.specs.Around.{goodFields}
+use Rattle.fdl.specs.Lemmas.Around.{fit}
 use Rattle.fdl.specs.Writing.{telegramOf}
 use Rattle.fdl.specs.declared.telegram.Header.{Header}
+use Rattle.access.proofs.route.Route as route-type
 use Rattle.access.specs.Laws.{header-route}
 use Rattle.access.specs.Route.{routeOf, headerOf}
 use Rattle.access.specs.declared.route.Route.{Route}
+use Rattle.access.specs.declared.route.Route.the-variants as route
 use Rattle.access.specs.declared.table.Service.{Service}
 use Rattle.content.specs.Fields.{fixedLength}
+use Rattle.content.specs.Laws.{fixed-small, bytes-long}
 use Rattle.content.specs.Writing.{bytesFor}
-use Rattle.service.specs.Writing.{headerFor, routeVerdict, verdictOf, telegramFor}
+use Rattle.content.specs.declared.fields.Content.{Content}
+use Rattle.service.specs.Writing.{headerFor, wayVerdict, routeVerdict, verdictOf, telegramFor}
+use Rattle.service.specs.declared.reading.Way.{Way}
+use Rattle.service.specs.Lemmas.Back.{wayBy}
 use Rattle.service.specs.Lemmas.Verdict.{bad-fields, good-fields}
 use borrow.Author.Needs.{needs}
 use Rattle.service_writer.proofs.write.Statement.{statement}
@@ -41,32 +51,54 @@ written c =
     let a = entry c .args in
     ap (λ (h : Header). telegramOf (a .format) h (bytesFor (a .content) (now (a .part)))) (made c)
 
+-- how long the data are
+sized : (c : tie.After-fixed-length) →
+    let a = entry (c .before) .args in
+    c .fixed-length .result + length (now (a .part)) ≡ fixedLength (a .content) + length (now (a .part))
+sized c = ap (λ (n : ℕ). n + length (now (entry (c .before) .args .part))) (c .fixed-length .ensures)
+
+-- what the test says is what the definition asks
+tested : (c : tie.After-fitting) →
+    let a = entry (c .before .before) .args in
+    goodFields (a .format) (headerFor (a .da) (a .sa) (a .fc) (a .content)) (fixedLength (a .content) + length (now (a .part))) ≡ c .fitting .result
+tested c =
+    let f = c .before in
+    let a = entry (f .before) .args in
+    ap (goodFields (a .format) (headerFor (a .da) (a .sa) (a .fc) (a .content))) (sym (sized f))
+    ∙ ap (λ (h : Header). goodFields (a .format) h (f .fixed-length .result + length (now (a .part)))) (sym (made (f .before)))
+    ∙ sym (c .fitting .ensures)
+
 -- what the test leaves: the verdict of the route
 abbrev verdictAt : tie.After-header-of → Verdict
 verdictAt c =
     let a = entry c .args in
     verdictOf (a .format) (a .da) (a .sa) (a .fc) (a .content) (now (a .part))
 
-fields : (c : tie.Else1) →
-    let e = c .before .before in
-    let a = entry e .args in
-    goodFields (a .format) (e .header-of .result) (fixedLength (a .content) + length (now (a .part))) ≡ true
-fields c = sym (c .before .fitting .ensures) ∙ not-false _ (c .if1 .left)
+fields : (c : tie.Then1) →
+    let f = c .before .before in
+    let a = entry (f .before) .args in
+    goodFields (a .format) (f .before .header-of .result) (f .fixed-length .result + length (now (a .part))) ≡ true
+fields c = sym (c .before .fitting .ensures) ∙ c .if1 .taken
 
 routed : (c : tie.After-route-for) {r : Route} → c .route-for .result ≡ r →
-    let e = c .before .before .before in
+    let e = c .before .before .before .before in
     let a = entry e .args in
     verdictAt e ≡ routeVerdict r (a .content) (now (a .part))
 routed c {r} g =
-    let e = c .before .before .before in
+    let e = c .before .before .before .before in
     let a = entry e .args in
     let service = e .before .service-of in
     let route : routeOf (headerFor (a .da) (a .sa) (a .fc) (a .content)) ≡ r =
     ap routeOf (sym (made e) ∙ e .header-of .ensures) ∙ header-route (service .result) (a .da) (a .sa) (a .fc) ∙ sym (c .route-for .ensures) ∙ g
     in
-    let good = ap (λ (h : Header). goodFields (a .format) h (fixedLength (a .content) + length (now (a .part)))) (sym (made e)) ∙ fields (c .before) in
-    good-fields (a .format) (a .da) (a .sa) (a .fc) (a .content) (now (a .part)) good
+    good-fields (a .format) (a .da) (a .sa) (a .fc) (a .content) (now (a .part)) (tested (c .before .before) ∙ c .before .if1 .taken)
     ∙ ap (λ (x : Route). routeVerdict x (a .content) (now (a .part))) route
+
+-- a route that leads somewhere has its way's verdict
+led : (r : Route) (c : Content) (part : List ℕ) → OneOf (0 ∷ 1 ∷ []) (Declared.tagOf route-type.the-type r) → routeVerdict r c part ≡ wayVerdict (wayBy r) c part
+led (route.Call s) c part h = refl
+led (route.Answer a) c part h = refl
+led route.Nowhere c part h = absurd (miss (0 ∷ 1 ∷ []) 2 tt h)
 
 service-of-requires : tie.Need-service-of-requires
 service-of-requires c κs = search needs
@@ -74,15 +106,11 @@ service-of-requires c κs = search needs
 header-of-requires : tie.Need-header-of-requires
 header-of-requires c κs = search needs
 
-fitting-requires : tie.Need-fitting-requires
-fitting-requires c κs = search needs
+fixed-length-requires : tie.Need-fixed-length-requires
+fixed-length-requires c κs = search needs
 
-returns : tie.Need-returns
-returns c =
-    let e = c .before .before in
-    let a = entry e .args in
-    let bad = sym (c .before .fitting .ensures) ∙ not-true _ (c .if1 .taken) in
-    rw (bad-fields (a .format) (a .da) (a .sa) (a .fc) (a .content) (now (a .part)) (rw (made e) at bad)) (refused 12 _ _)
+fitting-requires : tie.Need-fitting-requires
+fitting-requires c κs = rw (c .fixed-length .ensures) (fixed-small (entry (c .before) .args .content))
 
 route-for-requires : tie.Need-route-for-requires
 route-for-requires c κs = search needs
@@ -90,40 +118,42 @@ route-for-requires c κs = search needs
 enum-told : tie.Need-enum-told
 enum-told c = search needs
 
-enum-told-2 : tie.Need-enum-told-2
-enum-told-2 c = search needs
+add-len : tie.Need-add-len
+add-len c =
+    let t = c .before .before in
+    let f = t .before .before in
+    let a = entry (f .before) .args in
+    let size = bytes-long (a .content) (now (a .part)) ∙ sym (sized f) in
+    omega (arith, fit (a .format) (f .before .header-of .result) (bytesFor (a .content) (now (a .part))) size (fields t) .most)
+
+way-of-requires : tie.Need-way-of-requires
+way-of-requires c κs = search needs
 
 write-way-requires : tie.Need-write-way-requires
-write-way-requires c κs = fields (c .before .before .before .before)
+write-way-requires c κs = let t = c .before .before .before .before in (sized (t .before .before), fields t)
 
-enum-told-3 : tie.Need-enum-told-3
-enum-told-3 c = search needs
-
-write-way-requires-2 : tie.Need-write-way-requires-2
-write-way-requires-2 c κs = fields (c .before .before .before .before)
-
-returns-2 : tie.Need-returns-2
-returns-2 c = rw (routed (c .before .before) (c .enum-told .given .1)) (refused 10 _ _)
+returns : tie.Need-returns
+returns c = rw (routed (c .before .before) (c .enum-told .given .1)) (refused 10 _ _)
 
 same-length : tie.Need-same-length
 same-length c = search needs
 
+returns-2 : tie.Need-returns-2
+returns-2 c =
+    let w = c .before .before in
+    let y = w .before .before in
+    let r = y .before .before in
+    let e = r .before .before .before .before in
+    let a = entry e .args in
+    let verdict : verdictAt e ≡ wayVerdict (y .way-of .result) (a .content) (now (a .part)) =
+    routed r refl ∙ led (r .route-for .result) (a .content) (now (a .part)) (y .before .match .keys2) ∙ ap (λ (x : Way). wayVerdict x (a .content) (now (a .part))) (sym (y .way-of .ensures))
+    in
+    rw (verdict, ← written e) (w .write-way .ensures)
+
 returns-3 : tie.Need-returns-3
 returns-3 c =
-    let w = c .before .before in
-    let t = w .before .before in
-    let r = t .before .before in
-    rw (routed r (t .enum-told2 .given .1), ← written (r .before .before .before)) (w .write-way .ensures)
-
-same-length-2 : tie.Need-same-length-2
-same-length-2 c = search needs
-
-returns-4 : tie.Need-returns-4
-returns-4 c =
-    let w = c .before .before in
-    let t = w .before .before in
-    let r = t .before .before in
-    rw (routed r (t .enum-told3 .given .1), ← written (r .before .before .before)) (w .write-way2 .ensures)
+    let a = entry (c .before .before .before) .args in
+    rw (bad-fields (a .format) (a .da) (a .sa) (a .fc) (a .content) (now (a .part)) (tested (c .before) ∙ c .if1 .left)) (refused 12 _ _)
 
 pub write-spec : {M : Type 1} → statement M
 write-spec =
@@ -131,16 +161,14 @@ write-spec =
     (tie.spec
     service-of-requires
     header-of-requires
+    fixed-length-requires
     fitting-requires
-    returns
     route-for-requires
     enum-told
-    enum-told-2
+    add-len
+    way-of-requires
     write-way-requires
-    enum-told-3
-    write-way-requires-2
-    returns-2
+    returns
     same-length
-    returns-3
-    same-length-2
-    returns-4)
+    returns-2
+    returns-3)
