@@ -1,4 +1,5 @@
-// Reading a telegram: each byte that can be refused has its own return, in document 01's order.
+// Reading a telegram: each byte that can be refused has its own answer, in document 01's order. `access_point` and
+// `token` answer at one place, and not by returns: so the compiler keeps what they answer in registers.
 ghost use mathlib.Core.Path.{_≡_};
 ghost use Prim.Native.Nat.{_+_, _≤_};
 ghost use lib.ListN.{length};
