@@ -1,26 +1,25 @@
 -- A download while it runs: what is left from the present on comes to the whole.
 use Prim.Native.Nat.{ℕ, suc, _+_, _-_, _*_, _≤_, _<_}
 use mathlib.Core.Path.{_≡_, refl, sym, ap, _∙_, subst}
-use mathlib.Core.Bool.{false}
-use mathlib.Core.List.{List, [], _++_}
+use mathlib.Core.List.{List, []}
 use native.Mathlib.Omega.{arith}
 use native.Mathlib.Decide.{decLt}
 use native.Mathlib.Nat.{mul-le-mul}
 use native.Mathlib.Numerals.{add-one}
 use lib.Dec.{ltb}
 use lib.ListN.{length, getD, take, drop}
-use lib.Seq.{drop-append-seam, take-append-seam}
+use lib.Seq.{take-append-seam}
 use borrow.Author.Tests.{le-ltb, ltb-false}
 use Rattle.octets.specs.Fixed.{passed}
 use Rattle.octets.specs.Front.{fine, over}
 use Rattle.book.specs.Contents.{templatesOf}
 use Rattle.protocol.specs.Line as line
 use Rattle.protocol.specs.Line.{Passage, go, stop}
-use Rattle.protocol.specs.Printer.{Station, Stepped}
+use Rattle.protocol.specs.Printer.{Station, Stepped, stepped}
 use Rattle.protocol.specs.Printer as printer
-use Rattle.protocol.specs.Controller.{Move, Acted, acted, moveOf, stateVerdict}
+use Rattle.protocol.specs.Controller.{Move, Acted, acted, stateVerdict}
 use Rattle.protocol.specs.Controller as controller
-use Rattle.protocol.specs.Download.{Given, Config, hears, steps, begin, sendings, bound, download, given, passageBy, passagesOf, verdictOf, requestBuffer, leaving, endedBy, wholeBy, downloadOf}
+use Rattle.protocol.specs.Download.{Given, Config, hears, steps, begin, sendings, bound, download, given, passageBy, passagesOf, verdictOf, requestBuffer, leaving, wholeBy, downloadOf}
 use Rattle.protocol.specs.Demand.{NotRefused}
 use Rattle.protocol.specs.Theorem.{all-are-sent}
 use Rattle.protocol.specs.Lemmas.Accepted.{usable, Taken, taken-so}
@@ -34,10 +33,12 @@ use Rattle.protocol.specs.declared.controller.Controller.the-variants as state
 use Rattle.protocol.specs.declared.controller.Ending.{Ending}
 use Rattle.protocol.specs.declared.controller.Settings.{Settings}
 use Rattle.protocol.specs.declared.download.Downloaded.the-variants as downloaded
-use Rattle.sending.specs.Laws.{stationAfter, sent-so, station-after}
-use Rattle.sending.specs.Sending.{sentOf}
-use Rattle.download.specs.Turning.{Turned, actedAt, turnAfter, turnOf}
-use Rattle.download.proofs.Turns.{entry-known, passage-at, rest-at}
+use Rattle.protocol.specs.declared.printer.Printer.{Printer}
+use Rattle.protocol.specs.declared.printer.Reaction.{Reaction}
+use Rattle.protocol.specs.declared.printer.Reaction.the-variants as reaction
+use Rattle.sending.specs.Laws.{stationAfter, Sent, sent-so, station-after}
+use Rattle.sending.specs.Sending.{sentBy, sentOf}
+use Rattle.download.proofs.Entries.{entry-known, passage-at, rest-at}
 
 -- ---- what a move does
 
@@ -63,22 +64,6 @@ never-refused : {before request : List ℕ} {m : Move} {a : Action} → Shows be
 never-refused sends k e = let z : _≡_ {A = ℕ} 0 1 = cc in omega arith
 never-refused ends k e = let z : _≡_ {A = ℕ} 0 1 = cc in omega arith
 
--- a request that is stored already, stored once more
-over-over : (q before : List ℕ) → over q (over q before) ≡ over q before
-over-over q before = ap (λ (r : List ℕ). q ++ r) (drop-append-seam q (drop (length q) before))
-
-shown-again : {before request : List ℕ} {m : Move} {a : Action} → Shows before m a request → Shows request m a request
-shown-again {before} (sends {q} {o}) = subst (Shows (over q before) (go q o) (action.Send o (length q))) (over-over q before) sends
-shown-again ends = ends
-
--- and stored once more by the definition
-stored-again : {before request : List ℕ} {m : Move} {a : Action} (g : Given) (k : ℕ) (l : List Passage) (x : Station) (n : ℕ) → Shows before m a request
-    → requestBuffer (line.transcript (hears g) (steps g) (suc k) (at l x m n)) request ≡ requestBuffer (line.transcript (hears g) (steps g) (suc k) (at l x m n)) before
-unfolding line.transcript
-stored-again {before} g k l x n (sends {q} {o}) =
-    ap (requestBuffer (line.transcript (hears g) (steps g) k (line.nextBy (hears g) (steps g) l x (go q o) n))) (over-over q before)
-stored-again g k l x n ends = refl
-
 -- ---- the present: m sendings are behind, and what is left comes to the whole
 
 -- its state is not refused, and its request fits
@@ -90,23 +75,34 @@ shows : (g : Given) (before : List ℕ) (m : Move) → Kept g m → 255 ≤ leng
 shows g before (go q o) k room = rw (le-ltb (length before) (length q) (omega (arith, k .1))) sends
 shows g before (stop e) k room = ends
 
-acts : {before request : List ℕ} {m : Move} {a : Action} (g : Given) → Shows before m a request → Kept g m → 255 ≤ length before → acted m before ≡ controller.leaving a request
-acts {before} g (sends {q}) k room = rw (le-ltb (length before) (length q) (omega (arith, k .1)))
-acts g ends k room = refl
-
 still-long : {before request : List ℕ} {m : Move} {a : Action} (g : Given) → Shows before m a request → Kept g m → 255 ≤ length before → length request ≡ length before
 still-long {before} g (sends {q}) k room = over-long q before (omega (arith, k .1))
 still-long g ends k room = refl
 
-pub record Present (g : Given) (l : List Passage) (x : Station) (u : List ℕ) (m : ℕ) (a : Action) (y : Station) (request : List ℕ) : Type 0 where
-  move : Move
-  before : List ℕ
-  ran : line.run (hears g) (steps g) (bound g - m) (at (drop m l) y move m) ≡ download g l x
-  stored : requestBuffer (line.transcript (hears g) (steps g) (bound g - m) (at (drop m l) y move m)) before ≡ requestBuffer (sendings g l x (bound g)) u
-  shown : Shows before move a request
-  kept : Kept g move
+-- before the controller's step: its state, what came back for its last request, and the request's buffer
+pub record Due (g : Given) (l : List Passage) (x : Station) (u : List ℕ) (m : ℕ) (o : Controller) (back : List ℕ) (y : Station) (before : List ℕ) : Type 0 where
+  ran : line.run (hears g) (steps g) (bound g - m) (at (drop m l) y (steps g o back) m) ≡ download g l x
+  stored : requestBuffer (line.transcript (hears g) (steps g) (bound g - m) (at (drop m l) y (steps g o back) m)) before ≡ requestBuffer (sendings g l x (bound g)) u
+  state : stateVerdict (g .settings) (length (g .book)) o ≡ fine
   room : 255 ≤ length before
   usable : printer.verdictOf (g .diagnosis) y ≡ fine
+
+-- after it: what the controller does, and the request's buffer then
+pub record Present (g : Given) (l : List Passage) (x : Station) (u : List ℕ) (m : ℕ) (a : Action) (y : Station) (request : List ℕ) : Type 0 where
+  asked : Controller
+  back : List ℕ
+  before : List ℕ
+  due : Due g l x u m asked back y before
+  shown : Shows before (steps g asked back) a request
+
+-- the printer and what came back, as a sending leaves them
+abbrev stationBy : Reaction → Station → Station
+stationBy (reaction.Heard p n) y = record { printer = p; slots = y .slots; buffer = y .buffer }
+stationBy (reaction.Refused k) y = y
+
+abbrev backBy : Reaction → (buffer : List ℕ) → List ℕ
+backBy (reaction.Heard p n) buffer = take n buffer
+backBy (reaction.Refused k) buffer = []
 
 module _ {c : Settings} {book entries diagnosis : List ℕ} {x : Station} {u : List ℕ} (notYet : List ℕ) (t : Taken c book entries diagnosis x u) where
   abbrev g : Given
@@ -138,50 +134,35 @@ module _ {c : Settings} {book entries diagnosis : List ℕ} {x : Station} {u : L
           (state-kept c (templatesOf book) o s (t .settings) e h, request-fits c (templatesOf book) (ok .in-order) o s (state-counts c (length (templatesOf book)) o e) h)
       by (stop f) h = tt
 
-  -- ---- one turn
-
-  abbrev stationBy : (entry : ℕ) → Station → (q : List ℕ) → Station
-  stationBy entry y q = stationAfter g y q (passageBy entry)
-
-  abbrev moveBy : (entry : ℕ) → Station → Controller → (q : List ℕ) → Move
-  moveBy entry y o q = steps g o (line.replyAfter (hears g) (steps g) (passageBy entry) y q)
-
-  turn-so : (entry : ℕ) (o : Controller) (n : ℕ) (y : Station) (request : List ℕ) → ltb 2 entry ≡ false → printer.verdictOf diagnosis y ≡ fine
-      → controller.verdictOf c book o ≡ fine → turnOf c book entry notYet diagnosis o n y request
-      ≡ actedAt (stationBy entry y (take n request)) (acted (moveBy entry y o (take n request)) request)
-  unfolding turnOf sentOf controller.stepOf
-  turn-so entry o n y request known u v =
-      let s = sent-so g y (take n request) u entry in
-      rw known
-      (ap (λ (z : Stepped). turnAfter z c book o (y .printer) request) (s .heard)
-      ∙ rw (s .reply, v))
-
-  -- ---- the first request
+  -- ---- the controller's step
 
   has-room : 255 ≤ length u
   has-room = ltb-false (length u) 255 (passed 11 (ltb (length u) 255) fine (t .room) .0)
 
-  first-shown : {a : Action} {request : List ℕ} (reply : List ℕ) → controller.leaving a request ≡ controller.stepOf c book state.Fresh reply u
-      → Shows u (steps g state.Fresh []) a request
-  unfolding controller.stepOf moveOf stateVerdict
-  first-shown {a} {request} reply h =
-      let move : Move = steps g state.Fresh [] in
-      let e : controller.leaving a request ≡ acted move u = h ∙ rw (may-step state.Fresh refl) in
-      subst (λ (w : Acted). Shows u move (w .answer) (w .buffer)) (sym e) (shows g u move (kept-next state.Fresh [] refl) has-room)
-
-  pub begins : {a : Action} → controller.leaving a u ≡ controller.stepOf c book state.Fresh [] u → Present g l x u 0 a x u
+  pub begins : Due g l x u 0 state.Fresh [] x u
   unfolding download stateVerdict
-  begins h =
+  begins =
       let all : bound g - 0 ≡ bound g = omega arith in
       record {
-        move = steps g state.Fresh [];
-        before = u;
         ran = ap (λ (k : ℕ). line.run (hears g) (steps g) k (begin g l x)) all;
         stored = ap (λ (k : ℕ). requestBuffer (line.transcript (hears g) (steps g) k (begin g l x)) u) all;
-        shown = first-shown [] h;
-        kept = kept-next state.Fresh [] refl;
+        state = refl;
         room = has-room;
         usable = t .station;
+      }
+
+  pub steps-so : {m : ℕ} {o : Controller} {back : List ℕ} {y : Station} {before : List ℕ} {a : Action} {request : List ℕ} → Due g l x u m o back y before
+      → controller.leaving a request ≡ controller.stepOf c book o back before → Present g l x u m a y request
+  unfolding controller.stepOf
+  steps-so {o} {back} {before} {a} {request} d h =
+      let move : Move = steps g o back in
+      let e : controller.leaving a request ≡ acted move before = h ∙ rw (may-step o (d .state)) in
+      record {
+        asked = o;
+        back = back;
+        before = before;
+        due = d;
+        shown = subst (λ (w : Acted). Shows before move (w .answer) (w .buffer)) (sym e) (shows g before move (kept-next o back (d .state)) (d .room));
       }
 
   -- the whole is the download
@@ -190,6 +171,20 @@ module _ {c : Settings} {book entries diagnosis : List ℕ} {x : Station} {u : L
   whole-so = rw (t .settings, t .templates, t .entries, t .station, t .room)
 
   module _ {m : ℕ} {a : Action} {y : Station} {request : List ℕ} where
+    -- the move that is shown
+    abbrev moved : Present g l x u m a y request → Move
+    moved p = steps g (p .asked) (p .back)
+
+    kept : (p : Present g l x u m a y request) → Kept g (moved p)
+    kept p = kept-next (p .asked) (p .back) (p .due .state)
+
+    -- both buffers have room for every telegram
+    pub reply-room : Present g l x u m a y request → 255 ≤ length (y .buffer)
+    reply-room p = ltb-false (length (y .buffer)) 255 (usable diagnosis y (p .due .usable) .room)
+
+    pub request-room : Present g l x u m a y request → 255 ≤ length request
+    request-room p = omega (arith, still-long g (p .shown) (kept p) (p .due .room), p .due .room)
+
     -- a request that is still to be sent is within the bound
     pub more-left : {o : Controller} {n : ℕ} → a ≡ action.Send o n → Present g l x u m a y request → m < bound g
     unfolding line.run
@@ -199,101 +194,74 @@ module _ {c : Settings} {book entries diagnosis : List ℕ} {x : Station} {u : L
         by (yes h) = h
         by (no h) =
             let none : bound g - m ≡ 0 = omega arith in
-            let last : download g l x ≡ at (drop m l) y (p .move) m = sym (p .ran) ∙ ap (λ (k : ℕ). line.run (hears g) (steps g) k (at (drop m l) y (p .move) m)) none in
+            let last : download g l x ≡ at (drop m l) y (moved p) m = sym (p .due .ran) ∙ ap (λ (k : ℕ). line.run (hears g) (steps g) k (at (drop m l) y (moved p) m)) none in
             absurd (all-are-sent g l x ok (ap (λ (z : Config). z .move) last ∙ going (p .shown) o n e .0))
 
-    -- one turn
-    pub goes-on : {o : Controller} {n : ℕ} → a ≡ action.Send o n → Present g l x u m a y request
-        → {z : Turned} → z ≡ turnOf c book (getD entries m 0) notYet diagnosis o n y request → Present g l x u (m + 1) (z .action) (z .station) (z .request)
-    unfolding line.run line.transcript
-    goes-on {o} {n} e p {z} h =
-        let q : List ℕ = take n request in
-        let entry : ℕ = getD entries m 0 in
-        let d : ℕ = bound g - (m + 1) in
-        let here : Config = at (drop m l) y (p .move) m in
-        let there : Config = line.next (hears g) (steps g) here in
-        let y′ : Station = stationBy entry y q in
-        let move′ : Move = moveBy entry y o q in
-        let now = going (p .shown) o n e in
-        let kept : Kept g (go q o) = subst (Kept g) (now .0) (p .kept) in
-        let room : 255 ≤ length request = omega (arith, still-long g (p .shown) (p .kept) (p .room), p .room) in
-        let left : bound g - m ≡ suc d = omega (arith, more-left e p) in
-        let next : there ≡ at (drop (m + 1) l) y′ move′ (m + 1) =
-        ap (λ (w : Move). line.nextBy (hears g) (steps g) (drop m l) y w m) (now .0) ∙ rw (passage-at entries m, rest-at l m, add-one) in
-        let turn : z ≡ actedAt y′ (acted move′ request) = h ∙ turn-so entry o n y request (entry-known entries m (t .entries)) (p .usable) (may-step o (kept .0)) in
-        subst (λ (w : Turned). Present g l x u (m + 1) (w .action) (w .station) (w .request)) (sym turn)
-        (record {
-          move = move′;
-          before = request;
-          ran = ap (line.run (hears g) (steps g) d) (sym next) ∙ sym (ap (λ (k : ℕ). line.run (hears g) (steps g) k here) left) ∙ p .ran;
-          stored = ap (λ (w : Config). requestBuffer (line.transcript (hears g) (steps g) d w) request) (sym next)
-              ∙ ap (requestBuffer (line.transcript (hears g) (steps g) d there)) (now .1)
-              ∙ sym (ap (λ (w : Move). requestBuffer (line.sendingBy (hears g) (steps g) (drop m l) y w (line.transcript (hears g) (steps g) d there)) (p .before)) (now .0))
-              ∙ sym (ap (λ (k : ℕ). requestBuffer (line.transcript (hears g) (steps g) k here) (p .before)) left)
-              ∙ p .stored;
-          shown = shows g request move′ (kept-next o _ (kept .0)) room;
-          kept = kept-next o _ (kept .0);
-          room = room;
-          usable = station-after g y q (p .usable) entry;
-        })
+    -- a sending: the printer hears it, and what came back is the controller's next
+    module _ {o : Controller} {n : ℕ} (e : a ≡ action.Send o n) (p : Present g l x u m a y request) {r : Reaction} {lengths bodies reply : List ℕ}
+        (sent : printer.leaving r lengths bodies reply ≡ sentOf (getD entries m 0) (take n request) notYet diagnosis y) where
+      abbrev q : List ℕ
+      q = take n request
+
+      abbrev entry : ℕ
+      entry = getD entries m 0
+
+      abbrev after : Sent g y q (passageBy entry) (sentBy (passageBy entry) q notYet diagnosis y)
+      after = sent-so g y q (p .due .usable) entry
+
+      abbrev y′ : Station
+      y′ = stationAfter g y q (passageBy entry)
+
+      heard : printer.leaving r lengths bodies reply ≡ stepped (record { station = y′; reply = after .back })
+      unfolding sentOf
+      heard = sent ∙ rw (entry-known entries m (t .entries)) (after .heard)
+
+      pub hears-it : {k : ℕ} → r ≡ reaction.Refused k → ⊥
+      hears-it f = let h = ap (λ (z : Stepped). z .answer) heard in let z : _≡_ {A = ℕ} 0 1 = cc in omega arith
+
+      due : Due g l x u (m + 1) o (line.replyAfter (hears g) (steps g) (passageBy entry) y q) y′ request
+      unfolding line.run line.transcript
+      due =
+          let back : List ℕ = line.replyAfter (hears g) (steps g) (passageBy entry) y q in
+          let d : ℕ = bound g - (m + 1) in
+          let here : Config = at (drop m l) y (moved p) m in
+          let there : Config = line.next (hears g) (steps g) here in
+          let now = going (p .shown) o n e in
+          let stays : Kept g (go q o) = subst (Kept g) (now .0) (kept p) in
+          let left : bound g - m ≡ suc d = omega (arith, more-left e p) in
+          let next : there ≡ at (drop (m + 1) l) y′ (steps g o back) (m + 1) =
+          ap (λ (w : Move). line.nextBy (hears g) (steps g) (drop m l) y w m) (now .0) ∙ rw (passage-at entries m, rest-at l m, add-one) in
+          record {
+            ran = ap (line.run (hears g) (steps g) d) (sym next) ∙ sym (ap (λ (k : ℕ). line.run (hears g) (steps g) k here) left) ∙ p .due .ran;
+            stored = ap (λ (w : Config). requestBuffer (line.transcript (hears g) (steps g) d w) request) (sym next)
+                ∙ ap (requestBuffer (line.transcript (hears g) (steps g) d there)) (now .1)
+                ∙ sym (ap (λ (w : Move). requestBuffer (line.sendingBy (hears g) (steps g) (drop m l) y w (line.transcript (hears g) (steps g) d there)) (p .before)) (now .0))
+                ∙ sym (ap (λ (k : ℕ). requestBuffer (line.transcript (hears g) (steps g) k here) (p .before)) left)
+                ∙ p .due .stored;
+            state = stays .0;
+            room = request-room p;
+            usable = station-after g y q (p .due .usable) entry;
+          }
+
+      pub goes-on : {h : Printer} {k : ℕ} → r ≡ reaction.Heard h k → Due g l x u (m + 1) o (take k reply) (printer.lending h lengths bodies reply) request
+      goes-on {h} {k} f =
+          let z : printer.leaving (reaction.Heard h k) lengths bodies reply ≡ stepped (record { station = y′; reply = after .back }) =
+          ap (λ (w : Reaction). printer.leaving w lengths bodies reply) (sym f) ∙ heard in
+          let station : printer.lending h lengths bodies reply ≡ y′ = ap (λ (w : Stepped). stationBy (w .answer) (record { printer = h; slots = w .slots; buffer = w .buffer })) z in
+          let back : take k reply ≡ line.replyAfter (hears g) (steps g) (passageBy entry) y q = ap (λ (w : Stepped). backBy (w .answer) (w .buffer)) z ∙ after .reply in
+          rw (station, back) due
 
     -- where it ends, the present is the whole
     pub ended-so : {f : Ending} → a ≡ action.End f → Present g l x u m a y request
         → leaving (downloaded.Ended f m (y .printer)) (y .slots .lengths) (y .slots .bodies) (y .buffer) request ≡ downloadOf c book entries notYet diagnosis x u
     ended-so {f} e p =
-        let here : Config = at (drop m l) y (p .move) m in
+        let here : Config = at (drop m l) y (moved p) m in
         let now = stopping (p .shown) f e in
-        let last : download g l x ≡ here = sym (p .ran) ∙ run-stop (hears g) (steps g) (bound g - m) here (now .0) in
+        let last : download g l x ≡ here = sym (p .due .ran) ∙ run-stop (hears g) (steps g) (bound g - m) here (now .0) in
         let buffer : requestBuffer (sendings g l x (bound g)) u ≡ request =
-        sym (p .stored) ∙ ap (λ s. requestBuffer s (p .before)) (transcript-stop (hears g) (steps g) (bound g - m) here (now .0)) ∙ sym (now .1) in
+        sym (p .due .stored) ∙ ap (λ s. requestBuffer s (p .before)) (transcript-stop (hears g) (steps g) (bound g - m) here (now .0)) ∙ sym (now .1) in
         sym (whole-so ∙ ap (λ (w : Config). wholeBy w (sendings g l x (bound g)) u) last ∙ rw (now .0, buffer))
 
     -- and it is not refused
     pub not-refused-now : {k : ℕ} → a ≡ action.Refused k → Present g l x u m a y request → ⊥
     not-refused-now {k} e p = never-refused (p .shown) k e
-
-    -- both buffers have room for every telegram
-    pub reply-room : Present g l x u m a y request → 255 ≤ length (y .buffer)
-    reply-room p = ltb-false (length (y .buffer)) 255 (usable diagnosis y (p .usable) .room)
-
-    pub request-room : Present g l x u m a y request → 255 ≤ length request
-    request-room p = omega (arith, still-long g (p .shown) (p .kept) (p .room), p .room)
-
--- ---- with the opening request stored, the download is the same
-
-module _ {c : Settings} {book entries diagnosis : List ℕ} {x : Station} {u : List ℕ} (notYet : List ℕ) (t : Taken c book entries diagnosis x u) {a : Action} {request : List ℕ} (reply : List ℕ)
-    (h : controller.leaving a request ≡ controller.stepOf c book state.Fresh reply u) where
-  abbrev whole : Given
-  whole = given c book notYet diagnosis
-
-  abbrev opening : Move
-  opening = steps whole state.Fresh []
-
-  shown : Shows u opening a request
-  shown = first-shown notYet t reply h
-
-  kept : Kept whole opening
-  unfolding stateVerdict
-  kept = kept-next notYet t state.Fresh [] refl
-
-  still-taken : Taken c book entries diagnosis x request
-  still-taken =
-      let room : 255 ≤ length request = omega (arith, still-long whole shown kept (has-room notYet t), has-room notYet t) in
-      record { settings = t .settings; templates = t .templates; entries = t .entries; station = t .station; room = rw (le-ltb (length request) 255 room) }
-
-  pub ready : (verdictOf c book entries diagnosis x request ≡ fine) × (controller.leaving a request ≡ controller.stepOf c book state.Fresh [] request)
-  unfolding verdictOf controller.stepOf stateVerdict
-  ready = let s = still-taken in (
-    rw (s .settings, s .templates, s .entries, s .station) (s .room),
-    sym (rw (may-step notYet s state.Fresh refl) (acts whole (shown-again shown) kept (has-room notYet s))),
-  )
-
-  pub same-download : downloadOf c book entries notYet diagnosis x request ≡ downloadOf c book entries notYet diagnosis x u
-  unfolding moveOf
-  same-download =
-      let z : Config = download whole (passagesOf entries) x in
-      let rest : ℕ = length (templatesOf book) * (1 + c .polls) * (c .repeats + 1) in
-      let more : bound whole ≡ suc rest = omega arith in
-      let again : requestBuffer (sendings whole (passagesOf entries) x (bound whole)) request ≡ requestBuffer (sendings whole (passagesOf entries) x (bound whole)) u =
-      rw more (stored-again whole rest (passagesOf entries) x 0 shown) in
-      whole-so notYet still-taken ∙ ap (λ (b : List ℕ). leaving (endedBy (z .move) (z .sent) (z .printer .printer)) (z .printer .slots .lengths) (z .printer .slots .bodies) (z .printer .buffer) b) again ∙ sym (whole-so notYet t)

@@ -1,14 +1,8 @@
-// A whole download: sendings, each followed by the controller's step, until it ends.
+// A whole download: the controller's step and the sending of its request, in turns, until it ends.
 ghost use mathlib.Core.Path.{_≡_};
-ghost use Prim.Native.Nat.{_≤_};
-ghost use lib.ListN.{length};
-ghost use mathlib.Core.List.{[]};
 ghost use Rattle.octets.specs.Front.{fine};
-ghost use Rattle.protocol.specs.Printer as printer-step;
-ghost use Rattle.protocol.specs.Controller as controller-step;
-ghost use Rattle.protocol.specs.declared.controller.Controller.the-variants as state;
+ghost use Rattle.protocol.specs.Printer.{lending};
 ghost use Rattle.protocol.specs.Download.{leaving, verdictOf, downloadOf};
-ghost use Rattle.download.specs.Turning.{turned, turnOf};
 use protocol::Action;
 use protocol::Check;
 use protocol::Controller;
@@ -17,85 +11,43 @@ use protocol::Printer;
 use protocol::Reaction;
 use protocol::Settings;
 
-// What the controller does next, and the printer then.
+// Where a download stands before the controller's step: its state, the printer, and how many bytes of the last
+// reply came back.
 struct Stage {
-    action: Action,
-    printer: Printer,
-}
-
-// Sends the request of `count` bytes once, and takes what came back to the controller. A printer's refusal
-// is passed on.
-fn turn(
-    settings: Settings,
-    book: &[u8],
-    entry: u8,
-    not_yet: &[u8],
-    diagnosis: &[u8],
     controller: Controller,
-    count: u8,
     printer: Printer,
-    lengths: &mut [u8; 16],
-    bodies: &mut [u8; 3200],
-    reply: &mut [u8],
-    request: &mut [u8],
-) -> Stage
-    requires { ⌜ (255 ≤ length (now reply)) × (255 ≤ length (now request)) ⌝ }
-    ensures { λ r. ⌜ turned r (now (lengths .exit)) (now (bodies .exit)) (now (reply .exit)) (now (request .exit))
-        ≡ turnOf settings (now (book .entry)) entry (now («not_yet» .entry)) (now (diagnosis .entry)) controller count (printer-step.lending printer (now (lengths .entry)) (now (bodies .entry)) (now (reply .entry))) (now (request .entry)) ⌝ }
-{
-    let end = count as usize;
-    let reaction = sending::send(
-        entry,
-        &request[..end],
-        printer,
-        not_yet,
-        diagnosis,
-        lengths,
-        bodies,
-        reply,
-    );
-    match reaction {
-        Reaction::Refused(number) => Stage {
-            action: Action::Refused(number),
-            printer,
-        },
-        Reaction::Heard {
-            printer: heard,
-            reply: back,
-        } => {
-            let end = back as usize;
-            Stage {
-                action: controller::step(settings, book, controller, &reply[..end], request),
-                printer: heard,
-            }
-        }
-    }
+    back: u8,
 }
 
-// Goes on, with the opening request in front of its buffer, until the controller ends it.
+// Goes on until the controller ends it. Its step stands in one place, so that the compiler puts it here. A
+// printer's refusal is passed on.
 fn until_ended(
     settings: Settings,
     book: &[u8],
     line: &[u8],
     not_yet: &[u8],
     diagnosis: &[u8],
-    action: Action,
     printer: Printer,
     lengths: &mut [u8; 16],
     bodies: &mut [u8; 3200],
     reply: &mut [u8],
     request: &mut [u8],
 ) -> Downloaded
-    requires { ⌜ (verdictOf settings (now book) (now line) (now diagnosis) (printer-step.lending printer (now lengths) (now bodies) (now reply)) (now request) ≡ fine)
-        × (controller-step.leaving action (now request) ≡ controller-step.stepOf settings (now book) state.Fresh [] (now request)) ⌝ }
+    requires { ⌜ verdictOf settings (now book) (now line) (now diagnosis) (lending printer (now lengths) (now bodies) (now reply)) (now request) ≡ fine ⌝ }
     ensures { λ r. ⌜ leaving r (now (lengths .exit)) (now (bodies .exit)) (now (reply .exit)) (now (request .exit))
-        ≡ downloadOf settings (now (book .entry)) (now (line .entry)) (now («not_yet» .entry)) (now (diagnosis .entry)) (printer-step.lending printer (now (lengths .entry)) (now (bodies .entry)) (now (reply .entry))) (now (request .entry)) ⌝ }
+        ≡ downloadOf settings (now (book .entry)) (now (line .entry)) (now («not_yet» .entry)) (now (diagnosis .entry)) (lending printer (now (lengths .entry)) (now (bodies .entry)) (now (reply .entry))) (now (request .entry)) ⌝ }
 {
     let mut sent: u16 = 0;
-    let mut now = Stage { action, printer };
+    let mut now = Stage {
+        controller: Controller::Fresh,
+        printer,
+        back: 0,
+    };
     loop {
-        let action = now.action;
+        let controller = now.controller;
         let printer = now.printer;
+        let end = now.back as usize;
+        let action = controller::step(settings, book, controller, &reply[..end], request);
         match action {
             Action::End(ending) => {
                 return Downloaded::Ended {
@@ -106,24 +58,34 @@ fn until_ended(
             }
             Action::Refused(number) => return Downloaded::Refused(number),
             Action::Send {
-                controller,
+                controller: next,
                 request: count,
             } => {
                 let entry = sending::at(line, sent as usize);
-                now = turn(
-                    settings,
-                    book,
+                let end = count as usize;
+                let reaction = sending::send(
                     entry,
+                    &request[..end],
+                    printer,
                     not_yet,
                     diagnosis,
-                    controller,
-                    count,
-                    printer,
                     lengths,
                     bodies,
                     reply,
-                    request,
                 );
+                match reaction {
+                    Reaction::Refused(number) => return Downloaded::Refused(number),
+                    Reaction::Heard {
+                        printer: heard,
+                        reply: back,
+                    } => {
+                        now = Stage {
+                            controller: next,
+                            printer: heard,
+                            back,
+                        };
+                    }
+                }
                 sent += 1;
             }
         }
@@ -144,7 +106,7 @@ pub fn run(
     request: &mut [u8],
 ) -> Downloaded
     ensures { λ r. ⌜ leaving r (now (lengths .exit)) (now (bodies .exit)) (now (reply .exit)) (now (request .exit))
-        ≡ downloadOf settings (now (book .entry)) (now (line .entry)) (now («not_yet» .entry)) (now (diagnosis .entry)) (printer-step.lending printer (now (lengths .entry)) (now (bodies .entry)) (now (reply .entry))) (now (request .entry)) ⌝ }
+        ≡ downloadOf settings (now (book .entry)) (now (line .entry)) (now («not_yet» .entry)) (now (diagnosis .entry)) (lending printer (now (lengths .entry)) (now (bodies .entry)) (now (reply .entry))) (now (request .entry)) ⌝ }
 {
     let verdict = download_check::usable(
         settings,
@@ -160,14 +122,12 @@ pub fn run(
     if let Check::Refused(number) = verdict {
         return Downloaded::Refused(number);
     }
-    let action = controller::step(settings, book, Controller::Fresh, &reply[..0], request);
     until_ended(
         settings,
         book,
         line,
         not_yet,
         diagnosis,
-        action,
         printer,
         lengths,
         bodies,
