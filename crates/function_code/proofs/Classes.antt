@@ -1,43 +1,39 @@
--- The rule of the class table: one test, which antt computes at all 256 entries, and from it the class at each byte.
-use mathlib.Core.Path.{_≡_, refl, subst}
+-- The rule of the class table: one test, which antt computes at every entry, and from it the class at each byte.
+use mathlib.Core.Path.{_≡_, refl, _∙_, subst}
 use mathlib.Core.Bool.{Bool, true}
-use Prim.Native.Nat.{ℕ, zero, suc, _*_, _/_, _%_, _^_, _<_}
-use native.Mathlib.Decide.{decLe}
+use mathlib.Core.List.{List, [], _∷_}
+use Prim.Native.Nat.{ℕ, zero, suc, _+_, _<_}
+use native.Mathlib.Nat.{zero-add}
 use native.Mathlib.Omega.{arith}
 use lib.Dec.{eqb}
+use lib.ListN.{length, getD}
 use borrow.Author.Tests.{eqb-true}
 use Rattle.octets.specs.Choice.{pick, _and_, and-left, and-right}
-use Rattle.function_code.specs.Code.{classOf, classNumber, rowOf}
+use Rattle.function_code.specs.Code.{classOf, classNumber, Entry}
 use Rattle.function_code.specs.declared.code.Class.{Class}
 use Rattle.function_code.specs.declared.code.Class.the-variants.{Opening, Counted, Uncounted, Bare, Data, Reserved}
 
--- a test that passes at every number below n passes at each
-everyBelow : (n : ℕ) → (ℕ → Bool) → Bool
-everyBelow zero test = true
-everyBelow (suc n) test = test n and everyBelow n test
+-- an entry is the number of its function code's class
+abbrev right : (fc entry : ℕ) → Bool
+right fc entry = eqb entry (classNumber (classOf fc))
 
-at : (n : ℕ) (test : ℕ → Bool) → everyBelow n test ≡ true → (k : ℕ) → k < n → test k ≡ true
-unfolding everyBelow
-at zero test e k h = absurd (omega arith)
-at (suc n) test e k h =
-    elim (decLe (suc k) n) [
-      | yes g ↦ at n test (and-right (test n) (everyBelow n test) e) k g
-      | no g ↦
-          let same : n ≡ k = omega arith in
-          subst (λ (m : ℕ). test m ≡ true) same (and-left (test n) (everyBelow n test) e)
-    ]
+-- each entry of a table is, whose first one is that of the code `from`
+abbrev pub allRight : (from : ℕ) → List ℕ → Bool
+allRight from [] = true
+allRight from (x ∷ xs) = right from x and allRight (suc from) xs
 
--- the entry of a function code: in the row of its high digit, the digit at its low one
-abbrev entryAt : (fc : ℕ) → ℕ
-entryAt fc = rowOf (fc / 16) / 2 ^ (fc % 16 * 4) % 16
+from : (xs : List ℕ) (i : ℕ) → allRight i xs ≡ true → (k : ℕ) → k < length xs → getD xs k 0 ≡ classNumber (classOf (i + k))
+from [] i t k h = absurd (omega arith)
+from (x ∷ xs) i t zero h =
+    let e : i ≡ i + 0 = omega arith in
+    subst (λ (m : ℕ). x ≡ classNumber (classOf m)) e (eqb-true x (classNumber (classOf i)) (and-left (right i x) (allRight (suc i) xs) t))
+from (x ∷ xs) i t (suc k) h =
+    let e : suc i + k ≡ i + suc k = omega arith in
+    subst (λ (m : ℕ). getD xs k 0 ≡ classNumber (classOf m)) e (from xs (suc i) (and-right (right i x) (allRight (suc i) xs) t) k (omega arith))
 
-right : (fc : ℕ) → Bool
-right fc = eqb (entryAt fc) (classNumber (classOf fc))
-
--- each entry is the number of its function code's class
-pub entry : (fc : ℕ) → fc < 256 → rowOf (fc / 16) / 2 ^ (fc % 16 * 4) % 16 ≡ classNumber (classOf fc)
-unfolding classOf right everyBelow
-entry fc h = eqb-true (entryAt fc) (classNumber (classOf fc)) (at 256 right refl fc h)
+-- the class at each byte
+pub class-at : {table : List ℕ} {fc n : ℕ} → Entry table fc n → fc < 256 → length table ≡ 256 → allRight 0 table ≡ true → n ≡ classNumber (classOf fc)
+class-at {table} {fc} e h l t = e .there ∙ rw zero-add at (from table 0 t fc (omega arith))
 
 -- the class that a number of the table names
 abbrev pub named : ℕ → Class

@@ -1,9 +1,11 @@
 -- The class of a function code (document 01, "Function codes"), by its bits: bit k of a byte is its quotient by 2^k,
 -- modulo 2.
-use Prim.Native.Nat.{ℕ, zero, suc, _+_, _*_, _/_, _%_}
+use Prim.Native.Nat.{ℕ, _/_, _%_}
+use mathlib.Core.Path.{_≡_}
 use mathlib.Core.Bool.{Bool, false}
 use mathlib.Core.List.{List, [], _∷_}
 use lib.Dec.{eqb}
+use lib.ListN.{getD}
 use Rattle.octets.specs.Choice.{pick, _and_, _or_}
 use Rattle.function_code.specs.declared.code.Class.{Class}
 use Rattle.function_code.specs.declared.code.Class.the-variants.{Opening, Counted, Uncounted, Bare, Data, Reserved}
@@ -42,11 +44,6 @@ classNumber Reserved = 5
 abbrev pub isReserved : Class → Bool
 isReserved c = eqb (classNumber c) 5
 
--- ---- the table's rows: the sixteen codes with the same high digit, the class number of each as a hexadecimal digit
-
-abbrev pub rowFrom : (count fc : ℕ) → ℕ
-rowFrom zero fc = 0
-rowFrom (suc n) fc = classNumber (classOf fc) + 16 * rowFrom n (suc fc)
-
-abbrev pub rowOf : (high : ℕ) → ℕ
-rowOf high = rowFrom 16 (16 * high)
+-- what a table has at a function code
+pub record Entry (table : List ℕ) (fc n : ℕ) : Type 0 where
+  pub there : n ≡ getD table fc 0

@@ -1,6 +1,12 @@
 // Function codes: every byte has one class.
 ghost use mathlib.Core.Path.{_≡_};
 ghost use Rattle.function_code.specs.Code.{classOf, isReserved};
+use crate::table::BARE;
+use crate::table::COUNTED;
+use crate::table::DATA;
+use crate::table::OPENING;
+use crate::table::RESERVED;
+use crate::table::UNCOUNTED;
 use crate::table::class_number;
 
 // What kind of telegram a function code makes. An opening call starts the count of a pair of
@@ -21,11 +27,11 @@ pub fn class_of(fc: u8) -> Class
 {
     let number = class_number(fc);
     match number {
-        0 => Class::Opening,
-        1 => Class::Counted,
-        2 => Class::Uncounted,
-        3 => Class::Bare,
-        4 => Class::Data,
+        OPENING => Class::Opening,
+        COUNTED => Class::Counted,
+        UNCOUNTED => Class::Uncounted,
+        BARE => Class::Bare,
+        DATA => Class::Data,
         _ => Class::Reserved,
     }
 }
@@ -34,5 +40,5 @@ pub fn class_of(fc: u8) -> Class
 pub fn reserved(fc: u8) -> bool
     ensures { λ r. ⌜ r ≡ isReserved (classOf fc) ⌝ }
 {
-    class_number(fc) == 5
+    class_number(fc) == RESERVED
 }
