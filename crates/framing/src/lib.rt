@@ -87,6 +87,20 @@ pub fn writable(format: Format, header: Header, len: usize) -> bool
     good_length(format, saps_length(header) + len)
 }
 
+// Whether these fields may be written with user data of fixed bytes and part more. No PDU is longer than 246
+// bytes: both tests keep the sum within its bits.
+pub fn writable_with(format: Format, header: Header, fixed: usize, part: usize) -> bool
+    ensures { λ r. ⌜ r ≡ goodFields format header (fixed + part) ⌝ }
+{
+    if 246 < fixed {
+        return false;
+    }
+    if 246 < part {
+        return false;
+    }
+    writable(format, header, fixed + part)
+}
+
 // Where the user data of a telegram with these fields begin.
 pub fn user_start(format: Format, header: Header) -> usize
     ensures { λ r. ⌜ r ≡ userStart format header ⌝ }

@@ -20,18 +20,6 @@ use fdl::Header;
 use octets::Written;
 use service::Way;
 
-// Whether a telegram can have these fields and so much data: fixed bytes of the service's fields, and len of
-// its part. No PDU is longer than 246 bytes: that test keeps the sum within its bits.
-fn fitting(format: Format, header: Header, fixed: usize, len: usize) -> bool
-    requires { ⌜ fixed ≤ 10 ⌝ }
-    ensures { λ r. ⌜ r ≡ goodFields format header (fixed + len) ⌝ }
-{
-    if 246 < len {
-        return false;
-    }
-    framing::writable(format, header, fixed + len)
-}
-
 // Writes the user data at the front of out.
 fn write_data(way: Way, content: Content, part: &[u8], out: &mut [u8]) -> Written
     ensures answer { λ r. ⌜ r ≡ answerBy (wayVerdict way content (now (part .entry))) (bytesFor content (now (part .entry))) (length (now (out .entry))) ⌝ }
@@ -123,7 +111,7 @@ pub fn write(
     let service = content::service_of(content);
     let header = routing::header_of(service, da, sa, fc);
     let fixed = content::fixed_length(content);
-    if fitting(format, header, fixed, part.len()) {
+    if framing::writable_with(format, header, fixed, part.len()) {
         let route = routing::route_for(service, fc);
         if let Route::Nowhere = route {
             Written::Refused(10)

@@ -20,7 +20,7 @@ use Rattle.access.specs.declared.route.Route.{Route}
 use Rattle.access.specs.declared.route.Route.the-variants as route
 use Rattle.access.specs.declared.table.Service.{Service}
 use Rattle.content.specs.Fields.{fixedLength}
-use Rattle.content.specs.Laws.{fixed-small, bytes-long}
+use Rattle.content.specs.Laws.{bytes-long}
 use Rattle.content.specs.Writing.{bytesFor}
 use Rattle.content.specs.declared.fields.Content.{Content}
 use Rattle.service.specs.Writing.{headerFor, wayVerdict, routeVerdict, verdictOf, telegramFor}
@@ -58,15 +58,15 @@ sized : (c : tie.After-fixed-length) →
 sized c = ap (λ (n : ℕ). n + length (now (entry (c .before) .args .part))) (c .fixed-length .ensures)
 
 -- what the test says is what the definition asks
-tested : (c : tie.After-fitting) →
+tested : (c : tie.After-writable-with) →
     let a = entry (c .before .before) .args in
-    goodFields (a .format) (headerFor (a .da) (a .sa) (a .fc) (a .content)) (fixedLength (a .content) + length (now (a .part))) ≡ c .fitting .result
+    goodFields (a .format) (headerFor (a .da) (a .sa) (a .fc) (a .content)) (fixedLength (a .content) + length (now (a .part))) ≡ c .writable-with .result
 tested c =
     let f = c .before in
     let a = entry (f .before) .args in
     ap (goodFields (a .format) (headerFor (a .da) (a .sa) (a .fc) (a .content))) (sym (sized f))
     ∙ ap (λ (h : Header). goodFields (a .format) h (f .fixed-length .result + length (now (a .part)))) (sym (made (f .before)))
-    ∙ sym (c .fitting .ensures)
+    ∙ sym (c .writable-with .ensures)
 
 -- what the test leaves: the verdict of the route
 abbrev verdictAt : tie.After-header-of → Verdict
@@ -78,7 +78,7 @@ fields : (c : tie.Then1) →
     let f = c .before .before in
     let a = entry (f .before) .args in
     goodFields (a .format) (f .before .header-of .result) (f .fixed-length .result + length (now (a .part))) ≡ true
-fields c = sym (c .before .fitting .ensures) ∙ c .if1 .taken
+fields c = sym (c .before .writable-with .ensures) ∙ c .if1 .taken
 
 routed : (c : tie.After-route-for) {r : Route} → c .route-for .result ≡ r →
     let e = c .before .before .before .before in
@@ -109,8 +109,8 @@ header-of-requires c κs = search needs
 fixed-length-requires : tie.Need-fixed-length-requires
 fixed-length-requires c κs = search needs
 
-fitting-requires : tie.Need-fitting-requires
-fitting-requires c κs = rw (c .fixed-length .ensures) (fixed-small (entry (c .before) .args .content))
+writable-with-requires : tie.Need-writable-with-requires
+writable-with-requires c κs = search needs
 
 route-for-requires : tie.Need-route-for-requires
 route-for-requires c κs = search needs
@@ -162,7 +162,7 @@ write-spec =
     service-of-requires
     header-of-requires
     fixed-length-requires
-    fitting-requires
+    writable-with-requires
     route-for-requires
     enum-told
     add-len
