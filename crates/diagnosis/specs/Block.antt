@@ -24,7 +24,7 @@ extent kind len = record { kind = kind; len = len }
 
 -- byte 3 of a channel block: its type, bits 7-5, is 1..6; its error, the low five bits, is 1..9 or 16..31
 unfoldable pub goodCode : (kind error : ℕ) → Bool
-goodCode kind error = leb 1 kind and leb kind 6 and leb 1 error and (leb error 9 or leb 16 error)
+goodCode kind error = leb 1 kind and leb kind 6 and leb 1 error and (leb error 9 or (leb 16 error and leb error 31))
 
 -- a block of which `left` bytes are there, with its length, 2..63, in its header
 unfoldable pub sizedOf : Kind → (head left : ℕ) → Found

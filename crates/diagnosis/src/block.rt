@@ -37,5 +37,8 @@ pub fn good_code(kind: u8, error: u8) -> bool
     if error <= 9 {
         return true;
     }
-    16 <= error
+    if error < 16 {
+        return false;
+    }
+    error <= 31
 }

@@ -25,8 +25,16 @@ returns-4 c =
 returns-5 : tie.Need-returns-5
 unfolding goodCode
 returns-5 c =
-    let b = c .before .before in
-    simp (le-leb _ _ (b .before .if1 .left), le-leb _ _ (b .if2 .left), le-leb _ _ (c .before .if3 .left), lt-leb _ _ (c .if4 .left))
+    let d = c .before in
+    let b = d .before .before in
+    simp (le-leb _ _ (b .before .if1 .left), le-leb _ _ (b .if2 .left), le-leb _ _ (d .before .if3 .left), lt-leb _ _ (d .if4 .left), lt-leb _ _ (c .if5 .taken))
+
+returns-6 : tie.Need-returns-6
+unfolding goodCode
+returns-6 c =
+    let d = c .before in
+    let b = d .before .before in
+    simp (le-leb _ _ (b .before .if1 .left), le-leb _ _ (b .if2 .left), le-leb _ _ (d .before .if3 .left), lt-leb _ _ (d .if4 .left), le-leb _ _ (c .if5 .left))
 
 pub good-code-spec : {M : Type 1} → statement M
-good-code-spec = tie.close (tie.spec returns returns-2 returns-3 returns-4 returns-5)
+good-code-spec = tie.close (tie.spec returns returns-2 returns-3 returns-4 returns-5 returns-6)
