@@ -55,8 +55,9 @@ eitherSide (Present n w c) o = Present n w c
 abbrev pub generalByte : (input output : Side) → ℕ
 generalByte i o = 16 * presence i + 32 * presence o + sideByte (eitherSide i o)
 
+-- it has no vendor bytes: any that are given come before its byte's fault
 unfoldable pub generalVerdict : (input output : Side) (vendor : List ℕ) → Verdict
-generalVerdict i o vendor = pick (not (goodGeneral i o)) (fault 21) (pick (ltb 0 (length vendor)) (fault 21) fine)
+generalVerdict i o vendor = pick (ltb 0 (length vendor)) (fault 20) (pick (not (goodGeneral i o)) (fault 21) fine)
 
 -- ---- the special format
 

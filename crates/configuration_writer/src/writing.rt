@@ -129,10 +129,10 @@ fn write_general(input: Side, output: Side, vendor: &[u8], out: &mut [u8]) -> Wr
     ensures answer { λ r. ⌜ r ≡ answerBy (generalVerdict input output (now (vendor .entry))) (generalByte input output ∷ []) (length (now (out .entry))) ⌝ }
     ensures bytes { λ _. ⌜ now (out .exit) ≡ heldBy (generalVerdict input output (now (vendor .entry))) (generalByte input output ∷ []) (now (out .entry)) ⌝ }
 {
-    if !good_general(input, output) {
-        return Written::Refused(21);
-    }
     if 0 < vendor.len() {
+        return Written::Refused(20);
+    }
+    if !good_general(input, output) {
         return Written::Refused(21);
     }
     if out.len() < 1 {

@@ -151,16 +151,16 @@ module _ (i o : Side) (vendor rest : List ℕ) (go : goodSide 64 o ≡ true) (gi
 pub no-vendor : (i o : Side) (vendor : List ℕ) → generalVerdict i o vendor ≡ fine → 0 ≡ length vendor
 unfolding generalVerdict
 no-vendor i o vendor e =
-    let a = passed 21 (not (goodGeneral i o)) (pick (ltb 0 (length vendor)) (fault 21) fine) e in
-    omega (arith, ltb-false 0 (length vendor) (passed 21 (ltb 0 (length vendor)) fine (a .1) .0))
+    let a = passed 20 (ltb 0 (length vendor)) (pick (not (goodGeneral i o)) (fault 21) fine) e in
+    omega (arith, ltb-false 0 (length vendor) (a .0))
 
 -- whatever follows it
 pub module-read : (k : Identifier) (i o : Side) (vendor rest : List ℕ) → verdictBy k i o vendor ≡ fine
     → moduleIn (bytesBy k i o vendor ++ rest) ≡ one (record { identifier = k; input = i; output = o }) (vendorBy k i o) (length vendor)
 unfolding generalVerdict specialVerdict
 module-read General i o vendor rest e =
-    let a = passed 21 (not (goodGeneral i o)) (pick (ltb 0 (length vendor)) (fault 21) fine) e in
-    general-read i o rest (not-false (goodGeneral i o) (a .0))
+    let a = passed 20 (ltb 0 (length vendor)) (pick (not (goodGeneral i o)) (fault 21) fine) e in
+    general-read i o rest (not-false (goodGeneral i o) (passed 21 (not (goodGeneral i o)) fine (a .1) .0))
     ∙ ap (one (record { identifier = General; input = i; output = o }) 1) (no-vendor i o vendor e)
 module-read Special i o vendor rest e =
     let last = pick (not (goodSide 64 i)) (fault 21) fine in

@@ -15,27 +15,28 @@ abbrev bytesAt : tie.Start → List ℕ
 bytesAt b = generalByte (b .args .input) (b .args .output) ∷ []
 
 -- what the tests leave
-good : (c : tie.Else1) → let a = c .before .before .before .before .args in goodGeneral (a .input) (a .output) ≡ true
-good c = sym (c .before .good-general .ensures) ∙ not-false _ (c .if1 .left)
+good : (c : tie.Else2) → let a = c .before .before .before .before .before .args in goodGeneral (a .input) (a .output) ≡ true
+good c = sym (c .before .good-general .ensures) ∙ not-false _ (c .if2 .left)
 
 verdict : (c : tie.Else2) → let a = c .before .before .before .before .before .args in generalVerdict (a .input) (a .output) (now (a .vendor)) ≡ fine
 unfolding generalVerdict
-verdict c = simp (good (c .before), le-ltb _ _ (c .if2 .left))
-
-good-general-requires : tie.Need-good-general-requires
-good-general-requires c κs = search needs
+verdict c = simp (le-ltb _ _ (c .before .before .if1 .left), good c)
 
 returns : tie.Need-returns
 unfolding generalVerdict
 returns c =
-    let b = c .before .before .before .before in
-    simp (sym (c .before .good-general .ensures) ∙ not-true _ (c .if1 .taken)) (refused 21 (bytesAt b) (now (b .args .out)))
+    let b = c .before .before .before in
+    simp (lt-ltb _ _ (c .if1 .taken)) (refused 20 (bytesAt b) (now (b .args .out)))
+
+good-general-requires : tie.Need-good-general-requires
+good-general-requires c κs = search needs
 
 returns-2 : tie.Need-returns-2
 unfolding generalVerdict
 returns-2 c =
-    let b = c .before .before .before .before .before in
-    simp (good (c .before), lt-ltb _ _ (c .if2 .taken)) (refused 21 (bytesAt b) (now (b .args .out)))
+    let e = c .before .before in
+    let b = e .before .before .before in
+    simp (le-ltb _ _ (e .if1 .left), sym (c .before .good-general .ensures) ∙ not-true _ (c .if2 .taken)) (refused 21 (bytesAt b) (now (b .args .out)))
 
 returns-3 : tie.Need-returns-3
 returns-3 c =
@@ -44,7 +45,7 @@ returns-3 c =
     rw (verdict e) (too-small (bytesAt b) (now (b .args .out)) (c .if3 .taken))
 
 general-byte-requires : tie.Need-general-byte-requires
-general-byte-requires c κs = good (c .before .before)
+general-byte-requires c κs = good (c .before)
 
 slice-write-out : tie.Need-slice-write-out
 slice-write-out c = search needs
@@ -62,8 +63,8 @@ pub write-general-spec : {M : Type 1} → statement M
 write-general-spec =
     tie.close
     (tie.spec
-    good-general-requires
     returns
+    good-general-requires
     returns-2
     returns-3
     general-byte-requires
