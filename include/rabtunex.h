@@ -361,15 +361,20 @@ uint8_t rabtunex_read_service(const uint8_t *bytes, size_t bytes_len, uint8_t ve
                               uint8_t fields[RABTUNEX_SERVICE_FIELDS]);
 
 /* Writes one service telegram from its fields and its part at the front of out, and its length to
- * *stored. The function code decides the way, and service and way the SAPs. RABTUNEX_WAY,
- * RABTUNEX_PART_START and RABTUNEX_PART_LEN are not looked at, nor is any field that the service
- * does not have, so that fields that were read can be given back as they are. The last field of
- * Set_Slave_Adr counts as 1 where it is not 0. The first fault comes first:
+ * *stored. The function code decides the way, and service and way the SAPs; opening, counted and
+ * uncounted codes are a call's, bare and data codes an answer's, and RABTUNEX_WAY must say the
+ * same. RABTUNEX_PART_START and RABTUNEX_PART_LEN are not looked at, nor is any field that the
+ * service does not have, so that fields that were read can be given back as they are. The first
+ * fault comes first:
  *
- *     RABTUNEX_REFUSED_FIELD    an unknown service, kind or version; a bad telegram field or a bad
- *                               length of the data, to which a DPV1 number that is refused below
- *                               counts as four fixed bytes
- *     RABTUNEX_REFUSED_SERVICE  a function code that the service does not go by
+ *     RABTUNEX_REFUSED_FIELD    an unknown version or way, a kind that carries no service, or a
+ *                               service above RABTUNEX_SAP_MAX; a bad telegram field or a bad
+ *                               length of the data. For the length the fixed bytes count by the
+ *                               function code's way, a DPV1 number that is refused below counts
+ *                               as four fixed bytes, and a service that is not listed as two SAPs
+ *                               and the part
+ *     RABTUNEX_REFUSED_SERVICE  a service that is not listed, a way that is not the function
+ *                               code's, or a function code that the service does not go by
  *     RABTUNEX_REFUSED_DPV1     a DPV1 number that no call, or no answer, has
  *     what the service's data are refused for
  *     RABTUNEX_REFUSED_ROOM

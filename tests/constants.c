@@ -99,6 +99,7 @@ static uint8_t call(uint8_t service, unsigned fc, const uint8_t own[4], size_t p
 {
     uint8_t fields[RABTUNEX_SERVICE_FIELDS] = {0};
     fields[RABTUNEX_SERVICE] = service;
+    fields[RABTUNEX_WAY] = RABTUNEX_CALL;
     fields[RABTUNEX_SERVICE_KIND] = RABTUNEX_SD2;
     fields[RABTUNEX_SERVICE_DA] = PRINTER;
     fields[RABTUNEX_SERVICE_SA] = CONTROLLER;
@@ -560,6 +561,7 @@ static void ending_places(void)
     uint8_t ending[RABTUNEX_ENDING];
     size_t got;
     fields[RABTUNEX_SERVICE] = RABTUNEX_DPV1;
+    fields[RABTUNEX_WAY] = RABTUNEX_ANSWER;
     fields[RABTUNEX_SERVICE_KIND] = RABTUNEX_SD2;
     fields[RABTUNEX_SERVICE_DA] = CONTROLLER;
     fields[RABTUNEX_SERVICE_SA] = PRINTER;

@@ -16,6 +16,7 @@ pub mod download_lines;
 pub mod downloads;
 pub mod parameters;
 pub mod printers;
+pub mod service_fields;
 pub mod service_outcomes;
 pub mod service_pairs;
 pub mod service_telegrams;

@@ -5,19 +5,19 @@
 #![deny(unsafe_code)]
 
 mod archive;
-mod dpv1_fields;
 mod memory;
 mod tally;
 
 use archive::Outcome::{Accepted, Refused};
 use archive::{inputs, pairs, Outcome, CASES};
-use dpv1_fields::{answer_of, call_of, of_answer, of_call};
-use dpv1_fields::{looked_at_in_answer, looked_at_in_call};
-use dpv1_fields::{ALARM_ACK, IDLE, POLL, READ, TRANSPORT, WRITE};
-use dpv1_fields::{NEGATIVE_ALARM_ACK, NEGATIVE_READ, NEGATIVE_TRANSPORT, NEGATIVE_WRITE};
 use memory::{any_room, Lent, Written, MOST_ROOM};
 use rabtunex_tests::random::Random;
 use rabtunex_tests::reference::acyclic;
+use rabtunex_tests::reference::dpv1_fields::{answer_of, call_of, of_answer, of_call};
+use rabtunex_tests::reference::dpv1_fields::{looked_at_in_answer, looked_at_in_call};
+use rabtunex_tests::reference::dpv1_fields::{ALARM_ACK, IDLE, POLL, READ, TRANSPORT, WRITE};
+use rabtunex_tests::reference::dpv1_fields::{NEGATIVE_ALARM_ACK, NEGATIVE_READ};
+use rabtunex_tests::reference::dpv1_fields::{NEGATIVE_TRANSPORT, NEGATIVE_WRITE};
 use rabtunex_tests::reference::refusal;
 use rabtunex_tests::reference::service_text::Service;
 use rabtunex_tests::samples::{acyclic as samples, acyclic_fields};

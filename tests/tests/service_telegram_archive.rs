@@ -4,9 +4,7 @@
 
 #![deny(unsafe_code)]
 
-mod dpv1_fields;
 mod memory;
-mod service_fields;
 #[allow(unsafe_code)]
 mod service_library;
 mod tally;
@@ -14,16 +12,18 @@ mod tally;
 use memory::{any_room, Lent, Written, MOST_ROOM};
 use rabtunex_tests::random::Random;
 use rabtunex_tests::reference::fields::{SD1, SD2, SD3};
-use rabtunex_tests::reference::parameters::Mode;
 use rabtunex_tests::reference::service::{self, Service, Way};
+use rabtunex_tests::reference::service_fields::{self, looked_at, mode_of, version_of, Fields};
+use rabtunex_tests::reference::service_fields::{COUNT, LONGEST_TELEGRAM, OWN};
+use rabtunex_tests::reference::service_fields::{FC, KIND, PART_LENGTH, PART_START, SERVICE, WAY};
+use rabtunex_tests::reference::telegram::{class, Class};
 use rabtunex_tests::reference::{refusal, text};
 use rabtunex_tests::samples::parameters::MODES;
+use rabtunex_tests::samples::service_fields::{self as samples, Case, Sample, TRAIT_REFUSALS};
 use rabtunex_tests::samples::service_outcomes::Outcome::{self, Accepted, Refused};
 use rabtunex_tests::samples::service_outcomes::{READING_REFUSALS, WRITING_REFUSALS};
 use rabtunex_tests::samples::service_pairs::{self, FUNCTION_CODES};
-use rabtunex_tests::samples::{self, service_telegrams};
-use service_fields::{looked_at, mode_of, version_of, Fields, COUNT, LONGEST_TELEGRAM};
-use service_fields::{FC, KIND, OWN, PART_LENGTH, PART_START, SERVICE, WAY};
+use rabtunex_tests::samples::service_telegrams;
 use service_library as library;
 use tally::Tally;
 
@@ -248,61 +248,132 @@ fn bytes_that_a_short_length_would_not_show() {
     tally.expect_only(&[Refused(4)]);
 }
 
+/// Each trait of the fields must come to the refusals that it can come to.
 #[test]
 fn seeded_fields_are_written_alike() {
     let random = &mut Random::new(1);
     for mode in MODES {
         let mut tally = Tally::new(format!("seeded service telegrams written, {mode:?}"));
+        let mut traits = Tally::new(format!("some traits of those fields, {mode:?}"));
         for _ in 0..CASES {
+            let sample = samples::any(random, mode);
             let Sample {
                 fields,
                 version,
                 part,
-            } = any_fields(random, mode);
-            let needed = service_fields::write(&fields, version, &part, &mut [0; LONGEST_TELEGRAM]);
+            } = &sample;
+            let needed = service_fields::write(fields, *version, part, &mut [0; LONGEST_TELEGRAM]);
             let room = any_room(random, needed.unwrap_or(LONGEST_TELEGRAM));
-            tally.add(check_writing(&fields, version, &part, room));
+            let outcome = check_writing(fields, *version, part, room);
+            for name in samples::traits(&sample) {
+                traits.add(format!("{name}: {outcome}"));
+            }
+            tally.add(outcome);
         }
         tally.expect_only(&Outcome::all(&WRITING_REFUSALS));
+        let expected = TRAIT_REFUSALS.into_iter().flat_map(|(name, refusals)| {
+            let refused = refusals.iter().copied().map(Refused);
+            refused.map(move |outcome| format!("{name}: {outcome}"))
+        });
+        traits.expect_at_least(&expected.collect::<Vec<_>>());
     }
 }
 
-/// What is given to a writing.
-struct Sample {
-    fields: Fields,
-    version: u8,
-    part: Vec<u8>,
+/// Writes a case through both, which must come to what was worked out by hand.
+fn check_case(case: &Case) -> Outcome {
+    let outcome = check_writing(&case.fields, case.version, case.part, case.room);
+    match (outcome, case.refusal) {
+        (Accepted(..), None) => {}
+        (Refused(number), Some(expected)) if number == expected => {}
+        _ => panic!("{outcome}: {case:?}"),
+    }
+    outcome
 }
 
-/// Right and wrong in one place or several; the places that writing must not look
-/// at hold any bytes.
-fn any_fields(random: &mut Random, mode: Mode) -> Sample {
-    let sample = service_telegrams::any_fields(random, mode);
-    let mut fields = service_fields::of(&sample.telegram(), 0);
-    let mut version = version_of(mode);
-    let mut part = sample.part;
-    match random.below(16) {
-        0 => fields[SERVICE] = random.byte(),
-        1 => fields[SERVICE] = *random.pick(&[0, 51, 53, 55, 56, 57, 58, 59, 60, 61, 62]),
-        2 => fields[KIND] = random.byte(),
-        3 => version = random.byte(),
-        4 => fields[FC] = *random.pick(&samples::FUNCTION_CODES),
-        5 => fields[OWN] = *random.pick(&[0x00, 0xC8, 0xD1, 0xDC, 0xDE, 0xDF, 0x5F, 0x48]),
-        6 => fields[random.between(OWN, COUNT - 1)] = random.byte(),
-        7 => part.resize(*random.pick(&[0, 1, 2, 6, 8]), 0x02),
-        8 => part.resize(random.between(234, 248), 0x00),
-        _ => {}
+/// Every service by every function code, said to go either way and none: a way
+/// above 1 is refused with 12, and one that is not the code's with 10.
+#[test]
+fn every_way_is_written_alike() {
+    let mut tally = Tally::new("ways of service telegrams written");
+    let mut ways = Tally::new("services said to go another way than their code");
+    for case in samples::every_way() {
+        let outcome = check_case(&case);
+        let [number, way, fc] = [SERVICE, WAY, FC].map(|place| case.fields[place]);
+        let (coded, other) = match Way::by(fc) {
+            Way::Call => ("call", 1),
+            Way::Answer => ("answer", 0),
+        };
+        // A reserved code goes no way.
+        if way == other && class(fc) != Class::Reserved {
+            ways.add(format!("service {number} by code of {coded}: {outcome}"));
+        }
+        tally.add(outcome);
     }
-    for place in [WAY, PART_START, PART_LENGTH] {
-        fields[place] = random.byte();
+    tally.expect_only(&Outcome::all(&[10, 12]));
+    let expected = samples::LISTED.into_iter().flat_map(|number| {
+        ["call", "answer"].map(|coded| format!("service {number} by code of {coded}: refused 10"))
+    });
+    ways.expect_only(&expected.collect::<Vec<_>>());
+}
+
+/// A number up to 63 that the list lacks stands for two SAPs and the part: where
+/// they fit it is refused with 10, and else with 12, as any above 63 is.
+#[test]
+fn unlisted_services_are_written_alike() {
+    let mut tally = Tally::new("unlisted services written");
+    for case in samples::unlisted() {
+        let [number, kind] = [SERVICE, KIND].map(|place| case.fields[place]);
+        let outcome = check_case(&case);
+        let numbers = if number > 63 { "above 63" } else { "up to 63" };
+        tally.add(format!("{numbers}, kind {kind}: {outcome}"));
     }
-    let looked_at = looked_at(&fields, version);
-    random.fill(&mut fields[OWN + looked_at..]);
-    Sample {
-        fields,
-        version,
-        part,
+    tally.expect_only(&[
+        format!("up to 63, kind {SD1}: refused 12"),
+        format!("up to 63, kind {SD2}: refused 10"),
+        format!("up to 63, kind {SD2}: refused 12"),
+        format!("up to 63, kind {SD3}: refused 10"),
+        format!("up to 63, kind {SD3}: refused 12"),
+        format!("above 63, kind {SD1}: refused 12"),
+        format!("above 63, kind {SD2}: refused 12"),
+        format!("above 63, kind {SD3}: refused 12"),
+    ]);
+}
+
+/// The length is counted by the function code's way, also where the fields say
+/// the other.
+#[test]
+fn fixed_bytes_are_counted_alike() {
+    let mut tally = Tally::new("part lengths of services said to go the other way");
+    for case in samples::other_way_of_every_length() {
+        tally.add(check_case(&case));
     }
+    tally.expect_only(&[Refused(10), Refused(12)]);
+}
+
+/// Version, kind, way and service out of range, alone and all at once, and every
+/// fault of a Set_Slave_Adr that comes behind.
+#[test]
+fn faults_come_in_their_order() {
+    let mut tally = Tally::new("faults of a Set_Slave_Adr together");
+    for case in samples::faults_together() {
+        tally.add(check_case(&case));
+    }
+    let refused = [10, 11, 12, 20, 21].map(Refused);
+    let accepted = [Accepted(Service::SetSlaveAdr, Way::Call)];
+    tally.expect_only(&[&accepted[..], &refused].concat());
+}
+
+/// Every last byte of Set_Slave_Adr: above 1 it is refused with 21, after 12 and
+/// 20 and before 11.
+#[test]
+fn every_last_byte_of_set_slave_adr_is_written_alike() {
+    let mut tally = Tally::new("last bytes of a Set_Slave_Adr");
+    for case in samples::last_bytes() {
+        tally.add(check_case(&case));
+    }
+    let refused = [11, 12, 20, 21].map(Refused);
+    let accepted = [Accepted(Service::SetSlaveAdr, Way::Call)];
+    tally.expect_only(&[&accepted[..], &refused].concat());
 }
 
 /// Every byte in place of each of the fields, and every version.
@@ -317,10 +388,20 @@ fn every_byte_at_every_place_is_written_alike() {
             let mut fields = right;
             fields[place] = byte;
             let outcome = check_writing(&fields, row.version, part, LONGEST_TELEGRAM);
-            if [WAY, PART_START, PART_LENGTH].contains(&place)
-                || place >= OWN + looked_at(&right, row.version)
-            {
-                assert_eq!(outcome, accepted, "{place} {byte} {}", row.hex);
+            let expected = match place {
+                _ if byte == right[place] => Some(accepted),
+                SERVICE if byte > 63 => Some(Refused(12)),
+                SERVICE if right[KIND] == SD2 && !samples::LISTED.contains(&byte) => {
+                    Some(Refused(10))
+                }
+                WAY if byte > 1 => Some(Refused(12)),
+                WAY => Some(Refused(10)),
+                PART_START | PART_LENGTH => Some(accepted),
+                _ if place >= OWN + looked_at(&right, row.version) => Some(accepted),
+                _ => None,
+            };
+            if let Some(expected) = expected {
+                assert_eq!(outcome, expected, "{place} {byte} {}", row.hex);
             }
             tally.add(outcome);
         }
@@ -372,14 +453,15 @@ fn every_room() {
 }
 
 /// Every number of DPV1 by a function code of each class and by a reserved one,
-/// with parts that are right, too long for the number, and too long for a
-/// telegram.
+/// said to go either way, with parts that are right, too long for the number, and
+/// too long for a telegram.
 #[test]
 fn every_dpv1_number_is_written_alike() {
     let mut tally = Tally::new("numbers of DPV1 in service telegrams written");
     let lent = [0x09; 250];
     let codes = FUNCTION_CODES.map(|(fc, _)| fc).into_iter().chain([0x4C]);
-    for (fc, number) in codes.flat_map(|fc| (0..=255).map(move |number| (fc, number))) {
+    let codes = codes.flat_map(|fc| [(fc, 0), (fc, 1)]);
+    for ((fc, way), number) in codes.flat_map(|code| (0..=255).map(move |n| (code, n))) {
         for (length, kind) in [0, 1, 2, 3, 5, 6]
             .into_iter()
             .chain(238..=246)
@@ -387,7 +469,7 @@ fn every_dpv1_number_is_written_alike() {
         {
             for own in [[1, 7, 240], [128, 0xB0, 5], [128, 0, 5], [1, 7, 241]] {
                 let mut fields = [0; COUNT];
-                fields[..OWN].copy_from_slice(&[51, 0, kind, 7, 2, fc, 0, 0]);
+                fields[..OWN].copy_from_slice(&[51, way, kind, 7, 2, fc, 0, 0]);
                 fields[OWN] = number;
                 fields[OWN + 1..][..own.len()].copy_from_slice(&own);
                 tally.add(check_writing(&fields, 0, &lent[..length], MOST_ROOM));

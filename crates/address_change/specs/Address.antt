@@ -12,9 +12,9 @@ use Rattle.address_change.specs.declared.AddressChange.{AddressChange}
 use Rattle.address_change.specs.declared.AddressReading.{AddressReading}
 use Rattle.address_change.specs.declared.AddressReading.the-variants.{Change, Refused}
 
--- the verdict on the fields, at so many bytes in all, which reader and writer share: the length, then the address
+-- the verdict on the fields, at so many bytes in all, which reader and writer share: the length, the address, then the last byte
 unfoldable pub verdictOf : AddressChange → (size : ℕ) → Verdict
-verdictOf f size = pick (not (eqb size 4)) (fault 20) (pick (ltb 125 (f .address)) (fault 21) fine)
+verdictOf f size = pick (not (eqb size 4)) (fault 20) (pick (ltb 125 (f .address)) (fault 21) (pick (ltb 1 (f .locked)) (fault 21) fine))
 
 -- ---- reading
 
@@ -23,18 +23,15 @@ refused k = Refused (record { number = k })
 
 abbrev pub fieldsIn : List ℕ → AddressChange
 fieldsIn s =
-    record { address = getD s 0 0; ident = numberOf (getD s 1 0 ∷ getD s 2 0 ∷ []); locked = eqb (getD s 3 0) 1 }
+    record { address = getD s 0 0; ident = numberOf (getD s 1 0 ∷ getD s 2 0 ∷ []); locked = getD s 3 0 }
 
--- the last byte comes last: fields hold no other value of it than 0 and 1
 unfoldable pub readOf : List ℕ → AddressReading
-readOf s =
-    judged refused (verdictOf (fieldsIn s) (length s))
-    (pick (ltb 1 (getD s 3 0)) (refused 21) (Change (fieldsIn s) 4 (length s - 4)))
+readOf s = judged refused (verdictOf (fieldsIn s) (length s)) (Change (fieldsIn s) 4 (length s - 4))
 
 -- ---- writing
 
 abbrev pub fixedBytes : AddressChange → List ℕ
-fixedBytes f = f .address ∷ (bytesOf 2 (f .ident) ++ (pick (f .locked) 1 0 ∷ []))
+fixedBytes f = f .address ∷ (bytesOf 2 (f .ident) ++ (f .locked ∷ []))
 
 abbrev pub bytesFor : AddressChange → (rest : List ℕ) → List ℕ
 bytesFor f rest = fixedBytes f ++ rest

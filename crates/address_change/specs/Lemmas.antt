@@ -1,13 +1,13 @@
 -- Both ways between an address change and its bytes.
 use Prim.Native.Nat.{ℕ, _+_, _-_, _≤_, _<_}
-use mathlib.Core.Path.{_≡_, refl, sym, ap, ap₂, _∙_}
-use mathlib.Core.Bool.{Bool, true, false, not}
+use mathlib.Core.Path.{_≡_, sym, ap, ap₂, _∙_}
+use mathlib.Core.Bool.{not}
 use mathlib.Core.List.{List, [], _∷_, _++_}
 use native.Mathlib.Omega.{arith}
 use lib.ListN.{length, getD, length-append}
 use lib.Dec.{eqb, ltb}
-use borrow.Author.Tests.{ltb-false, eqb-true, eqb-false, not-false}
-use Rattle.octets.specs.Choice.{pick, by-pick}
+use borrow.Author.Tests.{eqb-true, not-false}
+use Rattle.octets.specs.Choice.{pick}
 use Rattle.octets.specs.Bytes.{Bytes}
 use Rattle.octets.specs.Elements.{part-elements}
 use Rattle.octets.specs.Number.{number-bytes}
@@ -19,33 +19,19 @@ use Rattle.address_change.specs.declared.AddressChange.{AddressChange}
 use Rattle.address_change.specs.declared.AddressReading.{AddressReading}
 use Rattle.address_change.specs.declared.AddressReading.the-variants.{Change, Refused}
 
--- ---- the last byte
-
-locked-back : (b : Bool) → eqb (pick b 1 0) 1 ≡ b
-locked-back true = refl
-locked-back false = refl
-
-locked-small : (b : Bool) → ltb 1 (pick b 1 0) ≡ false
-locked-small true = refl
-locked-small false = refl
-
-last-again : (x : ℕ) → x ≤ 1 → pick (eqb x 1) 1 0 ≡ x
-last-again x h = by-pick (λ (y : ℕ). y ≡ x) (eqb x 1) (λ t. sym (eqb-true x 1 t)) (λ t. let n : x ≡ 1 → ⊥ = eqb-false x 1 t in omega arith)
-
 -- ---- from the fields
 
 module _ (f : AddressChange) (word : f .ident < 65536) (rest : List ℕ) where
   fields-back : fieldsIn (bytesFor f rest) ≡ f
   fields-back =
-      ap₂ (λ (n : ℕ) (b : Bool). record { address = f .address; ident = n; locked = b }) (number-bytes 2 (f .ident) word) (locked-back (f .locked))
+      ap (λ (n : ℕ). record { address = f .address; ident = n; locked = f .locked }) (number-bytes 2 (f .ident) word)
 
   pub alike : readOf (bytesFor f rest) ≡ judged refused (verdictFor f rest) (Change f 4 (length rest))
   unfolding readOf
   alike =
       let len : 4 + length rest - 4 ≡ length rest = omega arith in
-      ap₂ (λ (g : AddressChange) (n : ℕ). judged refused (verdictOf g n) (pick (ltb 1 (pick (f .locked) 1 0)) (refused 21) (Change g 4 (n - 4))))
-      fields-back (length-append (fixedBytes f) rest)
-      ∙ ap₂ (λ (b : Bool) (n : ℕ). judged refused (verdictFor f rest) (pick b (refused 21) (Change f 4 n))) (locked-small (f .locked)) len
+      ap₂ (λ (g : AddressChange) (n : ℕ). judged refused (verdictOf g n) (Change g 4 (n - 4))) fields-back (length-append (fixedBytes f) rest)
+      ∙ ap (λ (n : ℕ). judged refused (verdictFor f rest) (Change f 4 n)) len
 
 -- ---- from the bytes
 
@@ -58,20 +44,17 @@ module _ (s : List ℕ) (bytes : Bytes s) where
     long : 4 ≤ length s
     unfolding verdictOf
     long =
-        let four : length s ≡ 4 = eqb-true _ _ (not-false _ (passed 20 (not (eqb (length s) 4)) (pick (ltb 125 (getD s 0 0)) (fault 21) fine) good .0)) in
+        let four : length s ≡ 4 = eqb-true _ _ (not-false _ (passed 20 (not (eqb (length s) 4)) (pick (ltb 125 (getD s 0 0)) (fault 21) (pick (ltb 1 (getD s 3 0)) (fault 21) fine)) good .0)) in
         omega arith
 
     taken : verdictFor (fieldsIn s) (partOf s 4 (length s - 4)) ≡ fine
     taken = ap (verdictOf (fieldsIn s)) (part-long 4 s long) ∙ good
 
-    same : getD s 3 0 ≤ 1 → bytesFor (fieldsIn s) (partOf s 4 (length s - 4)) ≡ s
-    same h =
+    same : bytesFor (fieldsIn s) (partOf s 4 (length s - 4)) ≡ s
+    same =
         part-tiles 4 s long
-        (ap₂ (λ (w : List ℕ) (x : ℕ). getD s 0 0 ∷ (w ++ (x ∷ []))) (number-again 2 1 s bytes) (last-again (getD s 3 0) h)
-        ∙ sym (part-elements 4 0 s long))
+        (ap (λ (w : List ℕ). getD s 0 0 ∷ (w ++ (getD s 3 0 ∷ []))) (number-again 2 1 s bytes) ∙ sym (part-elements 4 0 s long))
 
   pub again : Again (readOf s)
   unfolding readOf
-  again =
-      by-verdict Again (verdictOf (fieldsIn s) (length s)) (λ _. tt)
-      (λ good. by-pick Again (ltb 1 (getD s 3 0)) (λ _. tt) (λ l. (taken good, same good (ltb-false 1 (getD s 3 0) l))))
+  again = by-verdict Again (verdictOf (fieldsIn s) (length s)) (λ _. tt) (λ good. (taken good, same good))

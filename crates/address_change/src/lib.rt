@@ -7,11 +7,11 @@ ghost use Rattle.address_change.specs.Address.{readOf, fixedBytes, bytes
 use octets::Refusal;
 use octets::Written;
 
-// The slave with this ident number gets the address; when locked, no later change.
+// The slave with this ident number gets the address; with locked 1, and not 0, no later change is allowed.
 pub struct AddressChange {
     pub address: u8,
     pub ident: u16,
-    pub locked: bool,
+    pub locked: u8,
 }
 
 // What bytes are. What follows the four fixed bytes is the len bytes from start, which
@@ -36,15 +36,15 @@ pub fn read_address_change(bytes: &[u8]) -> AddressReading
     if 125 < address {
         return AddressReading::Refused(Refusal { number: 21 });
     }
-    let last = bytes[3];
-    if 1 < last {
+    let locked = bytes[3];
+    if 1 < locked {
         return AddressReading::Refused(Refusal { number: 21 });
     }
     let ident = octets::join16(bytes[1], bytes[2]);
     let fields = AddressChange {
         address,
         ident,
-        locked: last == 1,
+        locked,
     };
     AddressReading::Change {
         fields,
@@ -62,7 +62,7 @@ fn put(fields: AddressChange, out: &mut [u8]) -> usize
     out[0] = fields.address;
     out[1] = (ident / 256 % 256) as u8;
     out[2] = (ident % 256) as u8;
-    out[3] = fields.locked as u8;
+    out[3] = fields.locked;
     4
 }
 
@@ -76,6 +76,9 @@ pub fn write_address_change(fields: AddressChange, rest: &[u8], out: &mut [u8]) 
         return Written::Refused(20);
     }
     if 125 < fields.address {
+        return Written::Refused(21);
+    }
+    if 1 < fields.locked {
         return Written::Refused(21);
     }
     if out.len() < size {

@@ -1,6 +1,7 @@
 -- Service telegrams through the C interface. Their fields are eighteen bytes: the service, the way, kind, DA, SA, FC, start and
 -- length of the part, and then ten of the service's own: the fixed bytes of its data in their order, and 0 behind them.
 use Prim.Native.Nat.{ℕ, _+_}
+use mathlib.Core.Bool.{Bool}
 use mathlib.Core.List.{List, [], _∷_}
 use lib.ListN.{length, getD}
 use lib.Dec.{eqb, ltb}
@@ -12,11 +13,12 @@ use Rattle.octets.specs.declared.Written.{Written}
 use Rattle.fdl.specs.Around.{goodFields}
 use Rattle.fdl.specs.declared.telegram.Format.{Format}
 use Rattle.fdl.specs.declared.telegram.Header.{Header}
-use Rattle.access.specs.Route.{routeOf, headerOf}
+use Rattle.access.specs.Route.{headerOf, serviceRoute}
 use Rattle.access.specs.declared.route.Route.{Route}
 use Rattle.access.specs.declared.route.Route.the-variants as route
+use Rattle.access.specs.declared.table.Service.{Service}
 use Rattle.access.specs.declared.table.Service.the-variants as service
-use Rattle.content.specs.Fields.{serviceOf}
+use Rattle.content.specs.Fields.{serviceOf, fixedLength}
 use Rattle.content.specs.declared.fields.Content.{Content}
 use Rattle.service.specs.Reading.{refused, readOf}
 use Rattle.service.specs.Writing.{verdictOf, telegramFor}
@@ -25,7 +27,7 @@ use Rattle.service.specs.declared.reading.Way.the-variants as way
 use Rattle.service.specs.declared.reading.Reading.{Reading}
 use Rattle.service.specs.declared.reading.Reading.the-variants as reading
 use Rattle.fields.specs.Kinds.{formatNumber, kindOf}
-use Rattle.service_fields.specs.Service.{serviceNumber, placesOf, contentBytes, contentIn}
+use Rattle.service_fields.specs.Service.{serviceNumber, placesOf, contentBytes, rightWay, contentIn}
 use Rattle.service_fields.specs.declared.Named.{Named}
 use Rattle.service_fields.specs.declared.Named.the-variants as named
 use Rattle.fields.specs.declared.kinds.Kind.{Kind}
@@ -62,31 +64,38 @@ fieldsAfter (reading.Refused r) before = before
 
 -- ---- writing: the telegram
 
--- a DPV1 number that the way does not have: 12 for the telegram's fields first, as with four fixed bytes, then 10
+-- No such service, or not that way: the telegram's fields come first, with so much data; then the number.
+unfoldable pub lackingNumber : Format → Service → (fields : List ℕ) (len number : ℕ) → ℕ
+lackingNumber f s fields len number = pick (goodFields f (headerOf s (getD fields 3 0) (getD fields 4 0) (getD fields 5 0)) len) number 12
+
+-- a DPV1 number that the way does not have gives 28, where the function code carries DPV1
 abbrev pub reservedBy : Route → ℕ
 reservedBy route.Nowhere = 10
 reservedBy (route.Call s) = 28
 reservedBy (route.Answer a) = 28
 
-unfoldable pub reservedNumber : Format → Header → (len : ℕ) → ℕ
-reservedNumber f h len = pick (goodFields f h (4 + len)) (reservedBy (routeOf h)) 12
-
-abbrev pub namedVerdict : Named → Format → (fields part : List ℕ) → Verdict
-namedVerdict (named.Content c) f fields part = verdictOf f (getD fields 3 0) (getD fields 4 0) (getD fields 5 0) c part
-namedVerdict named.Reserved f fields part =
-    fault (reservedNumber f (headerOf service.Dpv1 (getD fields 3 0) (getD fields 4 0) (getD fields 5 0)) (length part))
-namedVerdict named.Nothing f fields part = fault 12
+-- A way that is not the function code's gives 10, in the place of 10. A DPV1 number that the way does not have counts as four fixed
+-- bytes. A slave's access point that the list lacks gives 10 too, and counts as two access points and the part.
+abbrev pub namedVerdict : Named → (right : Bool) → Format → (fields part : List ℕ) → Verdict
+namedVerdict (named.Content c) right f fields part =
+    pick right (verdictOf f (getD fields 3 0) (getD fields 4 0) (getD fields 5 0) c part)
+    (fault (lackingNumber f (serviceOf c) fields (fixedLength c + length part) 10))
+namedVerdict named.Reserved right f fields part =
+    fault (lackingNumber f service.Dpv1 fields (4 + length part) (pick right (reservedBy (serviceRoute service.Dpv1 (getD fields 5 0))) 10))
+namedVerdict named.Unlisted right f fields part = fault (lackingNumber f service.Dpv1 fields (length part) 10)
+namedVerdict named.Nothing right f fields part = fault 12
 
 abbrev pub namedBytes : Named → Format → (fields part : List ℕ) → List ℕ
 namedBytes (named.Content c) f fields part = telegramFor f (getD fields 3 0) (getD fields 4 0) (getD fields 5 0) c part
 namedBytes named.Reserved f fields part = []
+namedBytes named.Unlisted f fields part = []
 namedBytes named.Nothing f fields part = []
 
 -- a service stands in no short confirmation and in no token
 abbrev pub kindVerdict : Kind → Named → (fields part : List ℕ) → Verdict
 kindVerdict kind.Confirmation n fields part = fault 12
 kindVerdict kind.Token n fields part = fault 12
-kindVerdict (kind.Telegram f) n fields part = namedVerdict n f fields part
+kindVerdict (kind.Telegram f) n fields part = namedVerdict n (rightWay fields) f fields part
 kindVerdict kind.Unknown n fields part = fault 12
 
 abbrev pub kindBytes : Kind → Named → (fields part : List ℕ) → List ℕ
@@ -95,9 +104,11 @@ kindBytes kind.Token n fields part = []
 kindBytes (kind.Telegram f) n fields part = namedBytes n f fields part
 kindBytes kind.Unknown n fields part = []
 
--- an unknown version comes before all else
+-- an unknown version or way comes before all else
 abbrev pub verdictIn : (fields : List ℕ) (version : ℕ) (part : List ℕ) → Verdict
-verdictIn fields version part = pick (ltb 1 version) (fault 12) (kindVerdict (kindOf (getD fields 2 0)) (contentIn fields version) fields part)
+verdictIn fields version part =
+    pick (ltb 1 version) (fault 12)
+    (pick (ltb 1 (getD fields 1 0)) (fault 12) (kindVerdict (kindOf (getD fields 2 0)) (contentIn fields version) fields part))
 
 abbrev pub bytesIn : (fields : List ℕ) (version : ℕ) (part : List ℕ) → List ℕ
 bytesIn fields version part = kindBytes (kindOf (getD fields 2 0)) (contentIn fields version) fields part

@@ -2,10 +2,10 @@
 -- its data in their order, and 0 behind them. Fields that are to be written are eighteen: FC is the sixth, and the service's own are
 -- the last ten.
 use Prim.Native.Nat.{ℕ}
-use mathlib.Core.Bool.{Bool, true, false, not}
+use mathlib.Core.Bool.{Bool, true, false}
 use mathlib.Core.List.{List, [], _∷_, _++_}
 use lib.ListN.{getD, take, replicate}
-use lib.Dec.{eqb}
+use lib.Dec.{eqb, ltb}
 use Rattle.octets.specs.Choice.{pick}
 use Rattle.octets.specs.Number.{numberOf}
 use Rattle.function_code.specs.Code.{classOf}
@@ -87,6 +87,10 @@ isAnswer class.Bare = true
 isAnswer class.Data = true
 isAnswer class.Reserved = false
 
+-- is the way that the fields give, their second, the function code's
+unfoldable pub rightWay : (fields : List ℕ) → Bool
+rightWay fields = pick (isAnswer (classOf (getD fields 5 0))) (eqb (getD fields 1 0) 1) (eqb (getD fields 1 0) 0)
+
 abbrev pub namedBy : Case → Named
 namedBy (case.Call c) = named.Content (content.Dpv1Call c)
 namedBy (case.Answer x) = named.Content (content.Dpv1Answer x)
@@ -98,13 +102,12 @@ dpv1In fields =
     (namedBy (answerNamed (getD fields 8 0) (getD fields 9 0) (getD fields 10 0) (getD fields 11 0)))
     (namedBy (callNamed (getD fields 8 0) (getD fields 9 0) (getD fields 10 0) (getD fields 11 0)))
 
--- the last byte is not 0 where further changes are not allowed
 abbrev pub addressIn : (fields : List ℕ) → AddressChange
 addressIn fields =
     record {
       address = getD fields 8 0;
       ident = numberOf (getD fields 9 0 ∷ getD fields 10 0 ∷ []);
-      locked = not (eqb (getD fields 11 0) 0);
+      locked = getD fields 11 0;
     }
 
 abbrev pub commandIn : (fields : List ℕ) → GlobalCommand
@@ -139,6 +142,10 @@ parametersIn fields version =
       extension = extensionIn version (getD fields 15 0) (getD fields 16 0) (getD fields 17 0);
     }
 
+-- a number that is no service's: access points are 0 to 63
+abbrev pub unlistedBy : (service : ℕ) → Named
+unlistedBy n = pick (ltb 63 n) named.Nothing named.Unlisted
+
 unfoldable pub contentBy : (service : ℕ) (fields : List ℕ) (version : ℕ) → Named
 contentBy n fields version =
     pick (eqb n 0) (named.Content content.DataExchange)
@@ -151,7 +158,7 @@ contentBy n fields version =
     (pick (eqb n 59) (named.Content content.GetCfg)
     (pick (eqb n 60) (named.Content (diagnosisIn fields))
     (pick (eqb n 61) (named.Content (content.SetPrm (parametersIn fields version)))
-    (pick (eqb n 62) (named.Content content.ChkCfg) named.Nothing))))))))))
+    (pick (eqb n 62) (named.Content content.ChkCfg) (unlistedBy n)))))))))))
 
 abbrev pub contentIn : (fields : List ℕ) (version : ℕ) → Named
 contentIn fields version = contentBy (getD fields 0 0) fields version

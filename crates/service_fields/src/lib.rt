@@ -4,7 +4,7 @@ ghost use mathlib.Core.List.{_∷_};
 ghost use Rattle.function_code.specs.Code.{classOf};
 ghost use Rattle.parameters.specs.Writing.{statusBytes};
 ghost use Rattle.acyclic_fields.specs.Four.{fourBytes};
-ghost use Rattle.service_fields.specs.Service.{ownBytes, placesOf, ownFields, isAnswer, namedBy, dpv1In, diagnosisIn, extensionIn, parametersIn, contentIn};
+ghost use Rattle.service_fields.specs.Service.{ownBytes, placesOf, ownFields, isAnswer, rightWay, namedBy, dpv1In, diagnosisIn, extensionIn, parametersIn, unlistedBy, contentIn};
 use acyclic_fields::Case;
 use acyclic_fields::Four;
 use acyclic_fields::answer_four;
@@ -112,7 +112,7 @@ pub fn own_of(content: Content) -> Own
                 change.address,
                 (ident / 256 % 256) as u8,
                 (ident % 256) as u8,
-                change.locked as u8,
+                change.locked,
             );
             led(55, four)
         }
@@ -127,11 +127,12 @@ pub fn own_of(content: Content) -> Own
     }
 }
 
-// What fields that are to be written name: a content, a DPV1 number that the way does not have, or no
-// service.
+// What fields that are to be written name: a content; a DPV1 number that the way does not have; a slave's access
+// point that the list lacks; or a number that no access point has.
 pub enum Named {
     Content(Content),
     Reserved,
+    Unlisted,
     Nothing,
 }
 
@@ -148,6 +149,16 @@ fn is_answer(fc: u8) -> bool
         Class::Data => true,
         Class::Reserved => false,
     }
+}
+
+// Whether the way that the fields give is the function code's.
+pub fn right_way(fields: &[u8; 18]) -> bool
+    ensures { λ r. ⌜ r ≡ rightWay (now (fields .entry)) ⌝ }
+{
+    if is_answer(fields[5]) {
+        return fields[1] == 1;
+    }
+    fields[1] == 0
 }
 
 fn named_by(case: Case) -> Named
@@ -216,6 +227,16 @@ fn parameters_in(fields: &[u8; 18], version: u8) -> Parameters
     }
 }
 
+// A number that is no service's. Access points are 0 to 63.
+fn unlisted_by(service: u8) -> Named
+    ensures { λ r. ⌜ r ≡ unlistedBy service ⌝ }
+{
+    if 63 < service {
+        return Named::Nothing;
+    }
+    Named::Unlisted
+}
+
 // What the service's number and its own fields name. Fields that the service does not have are not
 // looked at.
 pub fn content_in(fields: &[u8; 18], version: u8) -> Named
@@ -229,7 +250,7 @@ pub fn content_in(fields: &[u8; 18], version: u8) -> Named
         55 => Named::Content(Content::SetSlaveAdr(AddressChange {
             address: fields[8],
             ident: octets::join16(fields[9], fields[10]),
-            locked: fields[11] != 0,
+            locked: fields[11],
         })),
         56 => Named::Content(Content::RdInp),
         57 => Named::Content(Content::RdOutp),
@@ -241,6 +262,6 @@ pub fn content_in(fields: &[u8; 18], version: u8) -> Named
         60 => Named::Content(diagnosis_in(fields)),
         61 => Named::Content(Content::SetPrm(parameters_in(fields, version))),
         62 => Named::Content(Content::ChkCfg),
-        _ => Named::Nothing,
+        _ => unlisted_by(service),
     }
 }

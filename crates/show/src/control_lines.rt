@@ -7,8 +7,8 @@ use crate::text::text;
 use address_change::AddressChange;
 use control::GlobalCommand;
 
-fn lock_line(locked: bool) {
-    if locked {
+fn lock_line(locked: u8) {
+    if locked == 1 {
         text(b"further changes not allowed\n");
     } else {
         text(b"further changes allowed\n");

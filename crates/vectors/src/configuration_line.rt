@@ -214,10 +214,6 @@ pub(crate) fn module_fields(fields: &[u8], out: &mut [u8]) {
         malformed();
         return;
     }
-    if vendor.len() != 0 {
-        malformed();
-        return;
-    }
     written_module(
         configuration::Identifier::General,
         input,

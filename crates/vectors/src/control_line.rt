@@ -5,7 +5,6 @@ use crate::outcome::behind;
 use crate::outcome::refused;
 use crate::outcome::stored;
 use crate::text::byte_field;
-use crate::text::flag_field;
 use crate::text::place;
 use crate::text::text;
 use crate::text::word_field;
@@ -13,7 +12,7 @@ use crate::text::word_field;
 pub(crate) fn change_words(change: address_change::AddressChange) {
     byte_field(change.address);
     word_field(change.ident);
-    flag_field(change.locked);
+    byte_field(change.locked);
 }
 
 pub(crate) fn address_line(bytes: &[u8], out: &mut [u8]) {
@@ -63,20 +62,16 @@ pub(crate) fn command_line(bytes: &[u8], out: &mut [u8]) {
     }
 }
 
-// Address, ident, whether locked, and the rest.
+// Address, ident, the last byte, and the rest.
 pub(crate) fn address_fields(fields: &[u8], out: &mut [u8]) {
     if fields.len() < 4 {
-        malformed();
-        return;
-    }
-    if 1 < fields[3] {
         malformed();
         return;
     }
     let change = address_change::AddressChange {
         address: fields[0],
         ident: octets::join16(fields[1], fields[2]),
-        locked: fields[3] == 1,
+        locked: fields[3],
     };
     let written = address_change::write_address_change(change, behind(fields, 4), out);
     stored(written, out);

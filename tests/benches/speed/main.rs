@@ -11,9 +11,6 @@ mod controller_side;
 mod data_library;
 #[path = "../../tests/download_side/mod.rs"]
 mod download_side;
-#[allow(dead_code)]
-#[path = "../../tests/dpv1_fields/mod.rs"]
-mod dpv1_fields;
 #[allow(unsafe_code)]
 #[path = "../../tests/library/mod.rs"]
 mod library;
@@ -23,9 +20,6 @@ mod memory;
 #[allow(dead_code)]
 #[path = "../../tests/printer_side/mod.rs"]
 mod printer_side;
-#[allow(dead_code)]
-#[path = "../../tests/service_fields/mod.rs"]
-mod service_fields;
 #[allow(unsafe_code)]
 #[path = "../../tests/service_library/mod.rs"]
 mod service_library;

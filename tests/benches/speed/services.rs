@@ -1,13 +1,13 @@
 //! Service telegrams read and written, in version DPV1.
 
 use crate::measure::{called, Load, Row};
-use crate::service_fields::{self, version_of, Fields, COUNT};
 use crate::service_library as library;
 use crate::telegrams::MIX;
 use rabtunex_tests::random::Random;
 use rabtunex_tests::reference::parameters::Mode;
 use rabtunex_tests::reference::printer::BUFFER_ROOM;
 use rabtunex_tests::reference::service::{self, ServiceTelegram};
+use rabtunex_tests::reference::service_fields::{self, version_of, Fields, COUNT};
 use rabtunex_tests::samples::service_telegrams;
 use std::hint::black_box;
 

@@ -26,23 +26,22 @@ const CONSISTENT: u8 = 0x80;
 #[derive(Clone, Copy, Debug, PartialEq, Eq)]
 pub struct Module<'a> {
     /// The format it is written in.
-    pub identifier: Identifier<'a>,
+    pub identifier: Identifier,
     /// What it gives to the master.
     pub input: Option<Side>,
     /// What it takes from the master.
     pub output: Option<Side>,
+    /// The vendor bytes, borrowed: none, in a general module that is right.
+    pub vendor: &'a [u8],
 }
 
 /// The formats of a module.
 #[derive(Clone, Copy, Debug, PartialEq, Eq)]
-pub enum Identifier<'a> {
+pub enum Identifier {
     /// One byte for all: both sides are alike, where there are two.
     General,
     /// A length byte for each side, and vendor bytes.
-    Special {
-        /// The vendor bytes, borrowed.
-        vendor: &'a [u8],
-    },
+    Special,
 }
 
 /// The inputs or the outputs of a module.
@@ -200,6 +199,7 @@ fn split_module(identifier: u8, after: &[u8]) -> Result<(Module<'_>, &[u8]), u8>
         identifier: Identifier::General,
         input: (identifier & GENERAL_INPUT != 0).then_some(side),
         output: (identifier & GENERAL_OUTPUT != 0).then_some(side),
+        vendor: &[],
     };
     Ok((module, after))
 }
@@ -220,9 +220,10 @@ fn split_special(identifier: u8, after: &[u8]) -> Result<(Module<'_>, &[u8]), u8
     // The output's length stands first; whichever is left is the input's.
     let output = if has_output { sides.next() } else { None };
     let module = Module {
-        identifier: Identifier::Special { vendor },
+        identifier: Identifier::Special,
         input: sides.next(),
         output,
+        vendor,
     };
     Ok((module, rest))
 }
@@ -230,13 +231,29 @@ fn split_special(identifier: u8, after: &[u8]) -> Result<(Module<'_>, &[u8]), u8
 /// Writes one module to the front of `out` and answers its length, or answers
 /// the refusal number and stores nothing.
 pub fn write_module(module: &Module<'_>, out: &mut [u8]) -> Result<usize, u8> {
-    match module.identifier {
-        Identifier::General => {
-            let identifier = general_identifier(module.input, module.output)?;
-            store([&[identifier]], out)
-        }
-        Identifier::Special { vendor } => write_special(module.input, module.output, vendor, out),
+    let Module {
+        identifier,
+        input,
+        output,
+        vendor,
+    } = *module;
+    match identifier {
+        Identifier::General => write_general(input, output, vendor, out),
+        Identifier::Special => write_special(input, output, vendor, out),
     }
+}
+
+/// A general module has no vendor bytes, whatever else is wrong with it.
+fn write_general(
+    input: Option<Side>,
+    output: Option<Side>,
+    vendor: &[u8],
+    out: &mut [u8],
+) -> Result<usize, u8> {
+    if !vendor.is_empty() {
+        return Err(refusal::DATA_LENGTH);
+    }
+    store([&[general_identifier(input, output)?]], out)
 }
 
 /// The one byte of a general module, which has room for one description.
@@ -305,14 +322,16 @@ mod tests {
             identifier: Identifier::General,
             input,
             output,
+            vendor: &[],
         }
     }
 
     const fn special(input: Option<Side>, output: Option<Side>, vendor: &[u8]) -> Module<'_> {
         Module {
-            identifier: Identifier::Special { vendor },
+            identifier: Identifier::Special,
             input,
             output,
+            vendor,
         }
     }
 
@@ -585,6 +604,32 @@ mod tests {
             (special(too_many, none, &[0; 271]), 21),
         ] {
             expect::refused(number, |out| write_module(&module, out));
+        }
+    }
+
+    #[test]
+    fn vendor_bytes_of_a_general_module_come_before_its_faults() {
+        let one = Some(side(1, false, false));
+        let two = Some(side(2, false, false));
+        let none = Some(side(0, false, false));
+        let many = Some(side(17, true, true));
+        for (input, output) in [
+            (one, None),
+            (None, one),
+            (one, one),
+            (None, None),
+            (none, None),
+            (many, many),
+            (one, two),
+            (none, many),
+        ] {
+            for count in [1, 14, 15, 16, 300] {
+                let module = Module {
+                    vendor: &[0; 300][..count],
+                    ..general(input, output)
+                };
+                expect::refused(20, |out| write_module(&module, out));
+            }
         }
     }
 

@@ -12,6 +12,8 @@ pub const GLOBAL_CONTROL_LENGTH: usize = 2;
 
 /// The highest address that a slave can be given.
 const LAST_ADDRESS: u8 = 125;
+/// The highest that the byte of the lock can be.
+const LOCKED: u8 = 1;
 /// The bits of a command that are 0.
 const FIXED_COMMAND_BITS: u8 = 0b1100_0001;
 
@@ -22,10 +24,20 @@ pub struct SetSlaveAdr<'a> {
     pub address: u8,
     /// The ident number of the slave that is meant.
     pub ident: u16,
-    /// Whether the address cannot be changed again.
-    pub locked: bool,
+    /// 1 where the address cannot be changed again, else 0.
+    pub locked: u8,
     /// What follows: nothing, in data that is right.
     pub rest: &'a [u8],
+}
+
+impl SetSlaveAdr<'_> {
+    /// Refuses a wrong byte; which one it is does not change the number.
+    fn judge(&self) -> Result<(), u8> {
+        if self.address > LAST_ADDRESS || self.locked > LOCKED {
+            return Err(refusal::BITS);
+        }
+        Ok(())
+    }
 }
 
 /// A command to groups of slaves.
@@ -41,16 +53,15 @@ pub struct GlobalControl<'a> {
 
 /// Reads a Set_Slave_Adr, or answers its refusal number.
 pub fn read_set_slave_adr(bytes: &[u8]) -> Result<SetSlaveAdr<'_>, u8> {
-    let ([address, high, low, lock], rest) = split(bytes)?;
-    if address > LAST_ADDRESS || lock > 1 {
-        return Err(refusal::BITS);
-    }
-    Ok(SetSlaveAdr {
+    let ([address, high, low, locked], rest) = split(bytes)?;
+    let data = SetSlaveAdr {
         address,
         ident: u16::from_be_bytes([high, low]),
-        locked: lock == 1,
+        locked,
         rest,
-    })
+    };
+    data.judge()?;
+    Ok(data)
 }
 
 /// Reads a Global_Control, or answers its refusal number.
@@ -80,11 +91,9 @@ pub fn write_set_slave_adr(data: &SetSlaveAdr<'_>, out: &mut [u8]) -> Result<usi
     if !data.rest.is_empty() {
         return Err(refusal::DATA_LENGTH);
     }
-    if data.address > LAST_ADDRESS {
-        return Err(refusal::BITS);
-    }
+    data.judge()?;
     let [high, low] = data.ident.to_be_bytes();
-    let bytes: [u8; SET_SLAVE_ADR_LENGTH] = [data.address, high, low, u8::from(data.locked)];
+    let bytes: [u8; SET_SLAVE_ADR_LENGTH] = [data.address, high, low, data.locked];
     store([&bytes], out)
 }
 
@@ -112,7 +121,7 @@ mod tests {
         let set_slave_adr = SetSlaveAdr {
             address: 125,
             ident: 0x1234,
-            locked: true,
+            locked: 1,
             rest: &[],
         };
         assert_eq!(read_set_slave_adr(&[125, 0x12, 0x34, 1]), Ok(set_slave_adr));
@@ -172,6 +181,24 @@ mod tests {
     }
 
     #[test]
+    fn every_last_byte_of_set_slave_adr_in_writing() {
+        for locked in 0..=255 {
+            let data = SetSlaveAdr {
+                address: 125,
+                ident: 0x1234,
+                locked,
+                rest: &[],
+            };
+            if locked < 2 {
+                let bytes = [125, 0x12, 0x34, locked];
+                expect::written(&bytes, |out| write_set_slave_adr(&data, out));
+            } else {
+                expect::refused(21, |out| write_set_slave_adr(&data, out));
+            }
+        }
+    }
+
+    #[test]
     fn any_fields_are_read_back_or_left_unwritten() {
         let random = &mut Random::new(2);
         let lent = random.bytes(300);
@@ -193,16 +220,21 @@ mod tests {
 
     #[test]
     fn rest_comes_before_the_fields_in_writing() {
-        for (address, rest, number) in [
-            (126, &[][..], 21),
-            (255, &[], 21),
-            (255, &[0], 20),
-            (0, &[0], 20),
+        for (address, locked, rest, number) in [
+            (126, 0, &[][..], 21),
+            (255, 1, &[], 21),
+            (0, 2, &[], 21),
+            (125, 255, &[], 21),
+            (126, 2, &[], 21),
+            (255, 0, &[0], 20),
+            (125, 2, &[0], 20),
+            (255, 255, &[0; 300], 20),
+            (0, 0, &[0], 20),
         ] {
             let data = SetSlaveAdr {
                 address,
                 ident: 0,
-                locked: false,
+                locked,
                 rest,
             };
             expect::refused(number, |out| write_set_slave_adr(&data, out));

@@ -18,11 +18,13 @@ const LAST_SOURCE: u8 = 126;
 /// The longest PDU of an SD2, and the PDU of every SD3.
 const LONGEST_PDU: usize = 246;
 const SD3_PDU: usize = 8;
+/// Both SAPs, where there are any.
+pub(super) const SAPS_LENGTH: usize = 2;
 /// The bytes of parameters before the status bytes, and the status bytes.
 const PARAMETERS_LENGTH: usize = 7;
 const STATUS_LENGTH: usize = 3;
 /// The bytes of DPV1 before its data, where a call or an answer has several.
-const ACYCLIC_LENGTH: usize = 4;
+pub(super) const ACYCLIC_LENGTH: usize = 4;
 
 /// The services of document 01.
 #[derive(Clone, Copy, Debug, PartialEq, Eq, PartialOrd, Ord)]
@@ -74,6 +76,24 @@ impl Service {
         // The list has the services in their order, but for the first.
         let place = (self as usize).checked_sub(1)?;
         Some(ACCESS_POINTS[place])
+    }
+
+    /// Whether a function code carries it, in the way that is the code's.
+    pub fn goes_by(self, fc: u8) -> bool {
+        match Carried::by(fc) {
+            Some(Carried::Call) => self != Service::GlobalControl,
+            Some(Carried::Command) => self == Service::GlobalControl,
+            Some(Carried::Answer) => matches!(
+                self,
+                Service::DataExchange
+                    | Service::Dpv1
+                    | Service::RdInp
+                    | Service::RdOutp
+                    | Service::GetCfg
+                    | Service::SlaveDiag
+            ),
+            None => false,
+        }
     }
 }
 
@@ -216,8 +236,8 @@ pub enum Content {
         address: u8,
         /// The ident number of the slave that is meant.
         ident: u16,
-        /// Whether the address cannot be changed again.
-        locked: bool,
+        /// 1 where the address cannot be changed again, else 0.
+        locked: u8,
     },
     /// A call without part, or an answer with the inputs as its part.
     RdInp,
@@ -261,7 +281,7 @@ impl Content {
     }
 
     /// How many bytes stand before the part, right or wrong.
-    fn length(&self) -> usize {
+    pub(super) fn length(&self) -> usize {
         match self {
             Content::Dpv1Call(Call::Poll) => 0,
             Content::Dpv1Call(Call::Idle) | Content::Dpv1Answer(Answer::Idle) => 1,
@@ -504,7 +524,8 @@ pub fn write(telegram: &ServiceTelegram<'_>, out: &mut [u8]) -> Result<usize, u8
     } = *telegram;
     let point = content.service().access_point();
     let length = content.length() + part.len();
-    judge_fields(telegram, point.map_or(0, |_| 2) + length)?;
+    let saps_length = point.map_or(0, |_| SAPS_LENGTH);
+    judge_fields(format, [da, sa, fc], saps_length + length)?;
     let carried = carried_by(fc)?;
     let saps = point.map(|AccessPoint { slave, master, .. }| match carried {
         Carried::Call | Carried::Command => [slave, master],
@@ -521,17 +542,20 @@ pub fn write(telegram: &ServiceTelegram<'_>, out: &mut [u8]) -> Result<usize, u8
     frame.write(out, |user| write_data(content, carried, part, user))
 }
 
-/// Refuses what no telegram has, whatever its service.
-fn judge_fields(telegram: &ServiceTelegram<'_>, pdu_length: usize) -> Result<(), u8> {
-    let fits = match telegram.format {
+/// Refuses DA, SA, FC or a length of the PDU that no telegram of the format has,
+/// whatever its service.
+pub(super) fn judge_fields(
+    format: Format,
+    [da, sa, fc]: [u8; 3],
+    pdu_length: usize,
+) -> Result<(), u8> {
+    let fits = match format {
         Format::Sd1 => pdu_length == 0,
         Format::Sd2 => (1..=LONGEST_PDU).contains(&pdu_length),
         Format::Sd3 => pdu_length == SD3_PDU,
     };
-    let is_right = fits
-        && telegram.da <= LAST_DESTINATION
-        && telegram.sa <= LAST_SOURCE
-        && class(telegram.fc) != Class::Reserved;
+    let is_right =
+        fits && da <= LAST_DESTINATION && sa <= LAST_SOURCE && class(fc) != Class::Reserved;
     is_right.then_some(()).ok_or(refusal::FIELD)
 }
 
@@ -627,7 +651,7 @@ mod tests {
     const ADDRESS: Content = Content::SetSlaveAdr {
         address: 125,
         ident: 0x1234,
-        locked: true,
+        locked: 1,
     };
     const CONTROL: Content = Content::GlobalControl {
         command: 0x3E,
@@ -1142,6 +1166,40 @@ mod tests {
     }
 
     #[test]
+    fn services_go_by_the_codes_that_writing_takes() {
+        let answers_too = [
+            Service::DataExchange,
+            Service::Dpv1,
+            Service::RdInp,
+            Service::RdOutp,
+            Service::GetCfg,
+            Service::SlaveDiag,
+        ];
+        for fc in 0..=255 {
+            let points = ACCESS_POINTS.map(|point| point.service);
+            for service in points.into_iter().chain([Service::DataExchange]) {
+                let expected = match service {
+                    Service::GlobalControl => COMMANDS.contains(&fc),
+                    _ if answers_too.contains(&service) => {
+                        CALLS.contains(&fc) || ANSWERS.contains(&fc)
+                    }
+                    _ => CALLS.contains(&fc),
+                };
+                assert_eq!(service.goes_by(fc), expected, "{service:?} {fc:02X}");
+            }
+        }
+        // Other codes may carry the service with other contents.
+        for (content, part, ..) in RIGHT {
+            for fc in FUNCTION_CODES {
+                let telegram = fields(Format::Sd2, fc, content, part);
+                let is_refused = write(&telegram, &mut [0; 255]) == Err(10);
+                let is_carried = content.service().goes_by(fc);
+                assert!(is_carried || is_refused, "{telegram:?}");
+            }
+        }
+    }
+
+    #[test]
     fn data_length_is_the_contents_and_the_parts() {
         let bytes = [0x13; 260];
         let chk_cfg: (Content, &[u8], &[u8], usize) = (Content::ChkCfg, &[0x13], CALLS, 2);
@@ -1242,7 +1300,12 @@ mod tests {
         let wrong_address = Content::SetSlaveAdr {
             address: 126,
             ident: 0,
-            locked: false,
+            locked: 0,
+        };
+        let wrong_lock = Content::SetSlaveAdr {
+            address: 125,
+            ident: 0,
+            locked: 2,
         };
         let wrong_command = Content::GlobalControl {
             command: 0x01,
@@ -1257,6 +1320,8 @@ mod tests {
             (0x08, wrong_error, &[0], 20),
             (0x5D, wrong_address, &[], 21),
             (0x5D, wrong_address, &[0], 20),
+            (0x5D, wrong_lock, &[], 21),
+            (0x5D, wrong_lock, &[0], 20),
             (0x44, wrong_command, &[], 21),
             (0x44, wrong_command, &[0], 20),
             (0x5D, wrong_status, &[], 21),

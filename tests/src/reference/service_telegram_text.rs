@@ -89,7 +89,7 @@ fn fields_text(content: &Content) -> String {
             address,
             ident,
             locked,
-        } => format!(" {address} {ident} {}", u8::from(locked)),
+        } => format!(" {address} {ident} {locked}"),
         Content::GlobalControl { command, groups } => format!(" {command} {groups}"),
         Content::SlaveDiag(Header {
             status1,

@@ -293,13 +293,14 @@ fn configuration_line(bytes: &[u8]) -> String {
 }
 
 fn module_text(module: &Module<'_>, next: usize) -> String {
-    let (format, vendor) = match module.identifier {
-        Identifier::General => ("general", &[][..]),
-        Identifier::Special { vendor } => ("special", vendor),
+    let format = match module.identifier {
+        Identifier::General => "general",
+        Identifier::Special => "special",
     };
     let input = or_dash(module.input.map(side_text));
     let output = or_dash(module.output.map(side_text));
-    let (start, length) = (next - vendor.len(), vendor.len());
+    let length = module.vendor.len();
+    let start = next - length;
     let again = again(written(|out| configuration::write_module(module, out)));
     format!(" | {format} {input} {output} {start} {length}{again}")
 }
@@ -318,7 +319,6 @@ fn set_slave_adr_line(bytes: &[u8]) -> Result<String, u8> {
         locked,
         rest,
     } = read;
-    let locked = u8::from(locked);
     let rest = rest_text(bytes, rest);
     Ok(format!("0 {address} {ident} {locked}{rest}{again}"))
 }

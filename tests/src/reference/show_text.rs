@@ -247,10 +247,10 @@ fn configuration_lines(modules: &[u8]) -> Vec<String> {
     lines
 }
 
-fn set_slave_adr_lines(address: u8, ident: u16, locked: bool) -> Vec<String> {
+fn set_slave_adr_lines(address: u8, ident: u16, locked: u8) -> Vec<String> {
     let changes = match locked {
-        false => "further changes allowed",
-        true => "further changes not allowed",
+        0 => "further changes allowed",
+        _ => "further changes not allowed",
     };
     vec![
         format!("new address {address}"),

@@ -41,12 +41,11 @@ pub enum Writer {
     Parameters(Mode),
     /// One module of a configuration: the identifier, 0 general or 1 special;
     /// then of the input and of the output whether there is one, its units, and
-    /// the flags of words and consistency; the vendor bytes of a special one are
-    /// lent.
+    /// the flags of words and consistency; the vendor bytes are lent.
     Module,
     /// A whole configuration: its modules are lent.
     Configuration,
-    /// A Set_Slave_Adr: address, ident, the flag of the lock; what follows is
+    /// A Set_Slave_Adr: address, ident, the byte of the lock; what follows is
     /// lent.
     SetSlaveAdr,
     /// A Global_Control: command, groups; what follows is lent.
@@ -248,12 +247,13 @@ fn module_line(bytes: &[u8]) -> Option<String> {
     let (output, vendor) = rest.split_first_chunk()?;
     let module = Module {
         identifier: match identifier {
-            0 if vendor.is_empty() => Identifier::General,
-            1 => Identifier::Special { vendor },
+            0 => Identifier::General,
+            1 => Identifier::Special,
             _ => return None,
         },
         input: side(*input)?,
         output: side(*output)?,
+        vendor,
     };
     let write = |out: &mut [u8]| configuration::write_module(&module, out);
     Some(written(*room, write))
@@ -280,7 +280,7 @@ fn set_slave_adr_line(bytes: &[u8]) -> Option<String> {
     let data = SetSlaveAdr {
         address,
         ident: u16::from_be_bytes([high, low]),
-        locked: flag(locked)?,
+        locked,
         rest,
     };
     let write = |out: &mut [u8]| control::write_set_slave_adr(&data, out);
@@ -745,6 +745,26 @@ mod tests {
         );
     }
 
+    /// A general one has none, and they come before its own faults and the room.
+    #[test]
+    fn general_modules_with_vendor_bytes() {
+        for (fields, counts) in [
+            ("FF 00 01 04 00 00 00 00 00 00", 1..=20),
+            ("FF 00 01 10 00 01 01 10 00 01", 1..=1),
+            // No side, no units, too many, and sides that differ.
+            ("FF 00 00 00 00 00 00 00 00 00", 1..=20),
+            ("FF 00 01 00 00 00 00 00 00 00", 1..=1),
+            ("FF 00 00 00 00 00 01 11 00 00", 14..=16),
+            ("FF 00 01 04 00 00 01 05 00 00", 1..=1),
+            ("00 00 01 04 00 00 00 00 00 00", 1..=1),
+            ("00 00 01 FF 00 00 01 FF 00 00", 300..=300),
+        ] {
+            for count in counts {
+                check_longer(Writer::Module, [(fields, " AA", count, "20")]);
+            }
+        }
+    }
+
     #[test]
     fn configurations() {
         check(
@@ -806,6 +826,15 @@ mod tests {
                 ("FF 7E 12 34 01 00", "20"),
                 ("00 7D 12 34 01 00", "20"),
                 ("03 7E 12 34 01", "21"),
+                // The last byte is 0 or 1.
+                ("FF 7D 12 34 02", "21"),
+                ("FF 7D 12 34 80", "21"),
+                ("FF 7D 12 34 FF", "21"),
+                ("FF 7E 12 34 02", "21"),
+                ("03 7D 12 34 02", "21"),
+                ("00 7D 12 34 FF", "21"),
+                ("FF 7D 12 34 02 00", "20"),
+                ("00 7E 12 34 FF 00", "20"),
             ],
         );
         check(
@@ -868,16 +897,10 @@ mod tests {
                 // The flags of a side that is not there.
                 "FF 01 00 00 02 00 00 00 00 00",
                 "FF 01 00 00 00 00 00 00 00 02",
-                // A general module has no vendor bytes.
-                "FF 00 01 04 00 00 00 00 00 00 00",
                 // Before any refusal.
                 "00 01 01 41 00 02 00 00 00 00",
+                "FF 00 01 04 00 02 00 00 00 00 07",
             ],
-        );
-        check_all(
-            Writer::SetSlaveAdr,
-            "malformed",
-            ["FF 7D 12 34 02", "FF 7E 12 34 FF", "00 7D 12 34 02 00"],
         );
         check_all(
             Writer::ChannelBlock,

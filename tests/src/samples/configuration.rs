@@ -288,17 +288,19 @@ pub fn any_fields<'a>(random: &mut Random, lent: &'a [u8]) -> Module<'a> {
     };
     let vendor_count = match random.below(32) {
         0 => random.between(0, 300),
+        // The general format has none.
+        4.. if is_general => 0,
         _ => usize::from(mostly_up_to(random, MOST_VENDOR_BYTES as u8)),
     };
     let sides = random.below(BOTH + 1);
-    let vendor = &lent[..vendor_count];
     Module {
         identifier: match is_general {
             true => Identifier::General,
-            false => Identifier::Special { vendor },
+            false => Identifier::Special,
         },
         input: (sides & INPUT != 0).then_some(input),
         output: (sides & OUTPUT != 0).then_some(output),
+        vendor: &lent[..vendor_count],
     }
 }
 
@@ -365,7 +367,7 @@ mod tests {
         }
         let expected = [None, Some(20), Some(24), Some(26), Some(27)];
         assert_eq!(read_as, BTreeSet::from(expected));
-        let general = [None, Some(21)].map(|outcome| (true, outcome));
+        let general = [None, Some(20), Some(21)].map(|outcome| (true, outcome));
         let special = [None, Some(21), Some(26)].map(|outcome| (false, outcome));
         let expected = general.into_iter().chain(special).collect();
         assert_eq!(written_as, expected);

@@ -95,8 +95,16 @@ pub fn any_set_slave_adr<'a>(random: &mut Random, lent: &'a [u8]) -> SetSlaveAdr
     SetSlaveAdr {
         address: mostly_up_to(random, 125),
         ident: random.word() as u16,
-        locked: random.below(2) == 0,
+        locked: any_lock(random),
         rest: any_rest(random, lent),
+    }
+}
+
+/// Mostly 0 or 1.
+fn any_lock(random: &mut Random) -> u8 {
+    match random.below(16) {
+        0 => *random.pick(&[2, 3, 128, 255]),
+        _ => mostly_up_to(random, 1),
     }
 }
 

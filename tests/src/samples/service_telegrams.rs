@@ -22,9 +22,9 @@ const LENT: usize = 300;
 
 /// The function codes of calls, those of functions 4 and 6, those of data
 /// answers, and those that carry no service.
-const CALLS: &[u8] = FUNCTION_CODES.split_at(15).0;
-const COMMANDS: &[u8] = &[0x44, 0x46];
-const ANSWERS: &[u8] = FUNCTION_CODES.split_at(42).1;
+pub(super) const CALLS: &[u8] = FUNCTION_CODES.split_at(15).0;
+pub(super) const COMMANDS: &[u8] = &[0x44, 0x46];
+pub(super) const ANSWERS: &[u8] = FUNCTION_CODES.split_at(42).1;
 #[rustfmt::skip]
 const OTHERS: &[u8] = &[
     0x40, 0x49, 0x4E, 0x4F, 0xC0,

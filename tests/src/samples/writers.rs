@@ -22,7 +22,7 @@ pub fn refusals(writer: Writer) -> &'static [u8] {
         Writer::Diagnosis => &[11, 20, 21, 22, 23, 24, 25],
         Writer::DeviceBlock | Writer::ModuleBlock => &[11, 21, 23],
         Writer::ChannelBlock => &[11, 21, 25],
-        Writer::Module => &[11, 21, 26],
+        Writer::Module => &[11, 20, 21, 26],
         Writer::Configuration => &[11, 20, 24, 26, 27],
         Writer::Parameters(_) | Writer::SetSlaveAdr | Writer::GlobalControl | Writer::Dpv1Call => {
             &[11, 20, 21]
@@ -57,17 +57,10 @@ fn longest_line(writer: Writer) -> usize {
 /// A line whose bytes do not make fields.
 pub fn malformed(random: &mut Random, writer: Writer) -> Vec<u8> {
     let mut line = line(random, writer);
-    let takes_no_more = matches!(
-        writer,
-        Writer::ChannelBlock | Writer::Module | Writer::TypedValue
-    );
+    let takes_no_more = matches!(writer, Writer::ChannelBlock | Writer::TypedValue);
     match random.below(3) {
         0 if !choices(writer).is_empty() => spoil_choice(random, writer, &mut line[1..]),
         1 if takes_no_more => {
-            if writer == Writer::Module {
-                // Only a general module takes no vendor bytes.
-                line[1] = 0;
-            }
             line.truncate(1 + fewest(writer));
             let surplus = random.between(1, 20);
             line.extend(random.bytes(surplus));
@@ -127,10 +120,18 @@ fn choices(writer: Writer) -> &'static [(usize, RangeInclusive<u8>)] {
             (7, 0..=1),
             (8, 0..=1),
         ],
-        Writer::SetSlaveAdr => &[(3, 0..=1)],
         Writer::Dpv1Call => &[(0, 0..=5)],
         Writer::Dpv1Answer | Writer::TypedValue => &[(0, 1..=9)],
         _ => &[],
+    }
+}
+
+/// Those places, and any other whose few right bytes must all be accepted.
+fn few_right_bytes(writer: Writer) -> &'static [(usize, RangeInclusive<u8>)] {
+    match writer {
+        // The lock: a wrong one is refused, and the fields are fields.
+        Writer::SetSlaveAdr => &[(3, 0..=1)],
+        _ => choices(writer),
     }
 }
 
@@ -232,6 +233,11 @@ fn wrong_in_several_places(random: &mut Random, writer: Writer) -> Vec<u8> {
         // The bodies too.
         Writer::Book => fields.extend(random.bytes(3)),
         Writer::Module => spoil_module(random, &mut fields),
+        // Both of its bytes that can be wrong.
+        Writer::SetSlaveAdr if random.below(2) == 0 => {
+            fields[0] = *random.pick(&[126, 255]);
+            fields[3] = *random.pick(&[2, 3, 128, 255]);
+        }
         Writer::SetSlaveAdr | Writer::GlobalControl | Writer::Dpv1Call | Writer::Dpv1Answer => {
             let count = often_up_to(random, 1, 3, LONGEST_LINE);
             fields.extend(random.bytes(count));
@@ -285,13 +291,13 @@ fn any_channel(random: &mut Random) -> [u8; 5] {
 fn module(random: &mut Random) -> Vec<u8> {
     let lent = random.bytes(300);
     let module = configuration::any_fields(random, &lent);
-    let (identifier, vendor) = match module.identifier {
-        Identifier::General => (0, &[][..]),
-        Identifier::Special { vendor } => (1, vendor),
+    let identifier = match module.identifier {
+        Identifier::General => 0,
+        Identifier::Special => 1,
     };
     let input = side(random, module.input);
     let output = side(random, module.output);
-    [&[identifier], &input[..], &output, vendor].concat()
+    [&[identifier], &input[..], &output, module.vendor].concat()
 }
 
 /// The fields of a side; what an absent one has is any, but for the flags.
@@ -311,16 +317,17 @@ fn side(random: &mut Random, side: Option<Side>) -> [u8; 4] {
 }
 
 /// Gives a module units that are too few or too many on both sides, and vendor
-/// bytes that are too many, where it has them.
+/// bytes that are too many: any are for a general one.
 fn spoil_module(random: &mut Random, fields: &mut Vec<u8>) {
     for place in [2, 6] {
         fields[place] = *random.pick(&[0, 65, 128, 255]);
     }
-    if fields[0] == 1 {
-        let count = often_up_to(random, 15, 17, 300);
-        fields.truncate(fewest(Writer::Module));
-        fields.extend(random.bytes(count));
-    }
+    let count = match fields[0] {
+        0 => often_up_to(random, 1, 3, 300),
+        _ => often_up_to(random, 15, 17, 300),
+    };
+    fields.truncate(fewest(Writer::Module));
+    fields.extend(random.bytes(count));
 }
 
 /// The fields of a right book for which there can be room.
@@ -384,7 +391,7 @@ fn groups_of(random: &mut Random, writer: Writer) -> [Group; 3] {
 fn accepted(random: &mut Random, writer: Writer) -> Vec<Vec<u8>> {
     const FEW: usize = 8;
     let mut lines = answered(random, writer, 0, FEW);
-    for (place, known) in choices(writer) {
+    for (place, known) in few_right_bytes(writer) {
         for byte in known.clone() {
             let has_byte = |line: &Vec<u8>| line[1 + place] == byte;
             if !lines.iter().any(has_byte) {
@@ -544,12 +551,24 @@ mod tests {
             (DPV0, |line| line[4] < 11 && line.len() > 245),
             (DPV1, |line| line[9] & 0x02 != 0 && line.len() > 245),
             (Writer::Module, |line| {
-                line[2] == 1 && line[3] > 64 && line.len() > 24
+                line[1] == 1 && line[2] == 1 && line[3] > 64 && line.len() > 24
             }),
             (Writer::Module, |line| {
-                line[6] == 1 && line[7] == 0 && line.len() > 24
+                line[1] == 1 && line[6] == 1 && line[7] == 0 && line.len() > 24
+            }),
+            // General ones with vendor bytes: no units, too many, and no side.
+            (Writer::Module, |line| {
+                line[1] == 0 && line[2] == 1 && line[3] == 0 && line.len() > 10
+            }),
+            (Writer::Module, |line| {
+                line[1] == 0 && line[6] == 1 && line[7] > 16 && line.len() > 10
+            }),
+            (Writer::Module, |line| {
+                line[1] == 0 && line[2] == 0 && line[6] == 0 && line.len() > 10
             }),
             (Writer::SetSlaveAdr, |line| line[1] > 125 && line.len() > 5),
+            (Writer::SetSlaveAdr, |line| line[4] > 1 && line.len() > 5),
+            (Writer::SetSlaveAdr, |line| line[4] > 1 && line[1] > 125),
             (Writer::GlobalControl, |line| {
                 line[1] & 0xC1 != 0 && line.len() > 3
             }),
@@ -624,7 +643,7 @@ mod tests {
 
     /// The lines have each flag, kind and code, and no other.
     fn check_choices(writer: Writer, lines: &[Vec<u8>]) {
-        for (place, known) in choices(writer) {
+        for (place, known) in few_right_bytes(writer) {
             let found: BTreeSet<u8> = lines.iter().map(|line| line[1 + place]).collect();
             assert!(found.into_iter().eq(known.clone()), "{writer:?} {place}");
         }

@@ -1,7 +1,7 @@
 //! The proved library's service telegrams, through its C interface,
 //! `include/rabtunex.h`.
 
-use crate::service_fields::Fields;
+use rabtunex_tests::reference::service_fields::Fields;
 
 extern "C" {
     fn rabtunex_read_service(

@@ -1,20 +1,11 @@
 -- `address_change::put` meets its contract. Four bytes are stored in turn.
-use mathlib.Core.Path.{_≡_, refl}
-use mathlib.Core.Bool.{Bool, true, false}
 use native.Mathlib.Omega.{arith}
-use mir.Val.{boolByte}
 use lib.ListN.{length-set}
 use borrow.Author.Needs.{needs}
-use Rattle.octets.specs.Choice.{pick}
 use Rattle.octets.specs.Front.{stores}
 use Rattle.address_change.specs.Address.{fixedBytes}
 use Rattle.address_change.proofs.put.Statement.{statement}
 use Rattle.address_change.proofs.put.Tie as tie
-
--- a bool as a byte
-as-byte : (b : Bool) → boolByte b ≡ pick b 1 0
-as-byte true = refl
-as-byte false = refl
 
 slice-write-out : tie.Need-slice-write-out
 slice-write-out c = search needs
@@ -31,9 +22,6 @@ cast-out-2 c = search needs
 slice-write-out-3 : tie.Need-slice-write-out-3
 slice-write-out-3 c = simp length-set (omega arith)
 
-cast-out-3 : tie.Need-cast-out-3
-cast-out-3 c = search needs
-
 slice-write-out-4 : tie.Need-slice-write-out-4
 slice-write-out-4 c = search needs
 
@@ -41,9 +29,7 @@ same-length : tie.Need-same-length
 same-length c = search needs
 
 returns : tie.Need-returns
-returns c =
-    let b = c .before in
-    rw (as-byte (b .args .fields .locked)) (stores (fixedBytes (b .args .fields)) (b .args .out .now) (b .pre))
+returns c = stores (fixedBytes (c .args .fields)) (c .args .out .now) (c .pre)
 
 pub put-spec : {M : Type 1} → statement M
 put-spec =
@@ -54,7 +40,6 @@ put-spec =
     slice-write-out-2
     cast-out-2
     slice-write-out-3
-    cast-out-3
     slice-write-out-4
     same-length
     returns)

@@ -16,8 +16,8 @@ returns-2 : tie.Need-returns-2
 unfolding verdictOf readOf
 returns-2 c = simp (eq-eqb _ _ (c .before .before .if1 .left), lt-ltb _ _ (c .if2 .taken))
 
-shared-slice-read-last : tie.Need-shared-slice-read-last
-shared-slice-read-last c = search needs
+shared-slice-read-locked : tie.Need-shared-slice-read-locked
+shared-slice-read-locked c = search needs
 
 returns-3 : tie.Need-returns-3
 unfolding verdictOf readOf
@@ -51,7 +51,7 @@ read-address-change-spec =
     returns
     shared-slice-read-address
     returns-2
-    shared-slice-read-last
+    shared-slice-read-locked
     returns-3
     shared-slice-read-join16
     shared-slice-read-join16-2

@@ -20,13 +20,21 @@ returns-2 : tie.Need-returns-2
 unfolding verdictOf
 returns-2 c = simp (eq-eqb _ _ (c .before .before .if1 .left), lt-ltb _ _ (c .if2 .taken)) (refused 21 _ _)
 
--- where both tests are passed
-passed : (c : tie.Else2) → let a = c .before .before .before .before .before .args in verdictFor (a .fields) (now (a .rest)) ≡ fine
-unfolding verdictOf
-passed c = simp (eq-eqb _ _ (c .before .before .if1 .left), le-ltb _ _ (c .if2 .left))
-
 returns-3 : tie.Need-returns-3
-returns-3 c = rw (passed (c .before)) (too-small _ _ (omega arith))
+unfolding verdictOf
+returns-3 c =
+    let b = c .before .before in
+    simp (eq-eqb _ _ (b .before .before .if1 .left), le-ltb _ _ (b .if2 .left), lt-ltb _ _ (c .if3 .taken)) (refused 21 _ _)
+
+-- where all tests are passed
+passed : (c : tie.Else3) → let a = c .before .before .before .before .before .before .before .args in verdictFor (a .fields) (now (a .rest)) ≡ fine
+unfolding verdictOf
+passed c =
+    let b = c .before .before in
+    simp (eq-eqb _ _ (b .before .before .if1 .left), le-ltb _ _ (b .if2 .left), le-ltb _ _ (c .if3 .left))
+
+returns-4 : tie.Need-returns-4
+returns-4 c = rw (passed (c .before)) (too-small _ _ (omega arith))
 
 put-requires : tie.Need-put-requires
 put-requires c κs = search needs
@@ -37,8 +45,8 @@ store-behind-requires c κs = search needs
 same-length : tie.Need-same-length
 same-length c = search needs
 
-returns-4 : tie.Need-returns-4
-returns-4 c =
+returns-5 : tie.Need-returns-5
+returns-5 c =
     let r = c .before .before in
     let p = r .before .before .before .before in
     let s = r .store-behind .ensures in
@@ -52,7 +60,8 @@ write-address-change-spec =
     returns
     returns-2
     returns-3
+    returns-4
     put-requires
     store-behind-requires
     same-length
-    returns-4)
+    returns-5)

@@ -83,9 +83,7 @@ From n d = Holds (λ _ start _. start ≡ n) d
 
 address-from : (u : List ℕ) → From 4 (addressIn (readAddress u))
 unfolding readAddress
-address-from u =
-    by-verdict (λ (r : AddressReading). From 4 (addressIn r)) (addressVerdict (addressFields u) (length u)) (λ _. tt)
-    (λ _. by-pick (λ (r : AddressReading). From 4 (addressIn r)) (ltb 1 (getD u 3 0)) (λ _. tt) (λ _. refl))
+address-from u = by-verdict (λ (r : AddressReading). From 4 (addressIn r)) (addressVerdict (addressFields u) (length u)) (λ _. tt) (λ _. refl)
 
 command-from : (u : List ℕ) → From 2 (commandIn (readCommand u))
 unfolding readCommand

@@ -61,8 +61,8 @@ unfolding readAddress addressVerdict
 address-inside u =
     by-verdict (λ (r : AddressReading). endOf (addressIn r) ≤ length u) (addressVerdict (addressFields u) (length u)) (λ _. none (length u))
     (λ good.
-    let four : length u ≡ 4 = eqb-true _ _ (not-false _ (passed 20 (not (eqb (length u) 4)) (pick (ltb 125 (getD u 0 0)) (fault 21) fine) good .0)) in
-    by-pick (λ (r : AddressReading). endOf (addressIn r) ≤ length u) (ltb 1 (getD u 3 0)) (λ _. none (length u)) (λ _. behind 4 (length u) (omega (arith, four))))
+    let four : length u ≡ 4 = eqb-true _ _ (not-false _ (passed 20 (not (eqb (length u) 4)) (pick (ltb 125 (getD u 0 0)) (fault 21) (pick (ltb 1 (getD u 3 0)) (fault 21) fine)) good .0)) in
+    behind 4 (length u) (omega (arith, four)))
 
 command-inside : (u : List ℕ) → endOf (commandIn (readCommand u)) ≤ length u
 unfolding readCommand commandVerdict

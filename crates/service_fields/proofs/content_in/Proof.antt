@@ -26,17 +26,20 @@ join16-requires c κs = search needs
 element-copy-out-t22 : tie.Need-element-copy-out-t22
 element-copy-out-t22 c = search needs
 
-element-copy-out-t30 : tie.Need-element-copy-out-t30
-element-copy-out-t30 c = search needs
+element-copy-out-t29 : tie.Need-element-copy-out-t29
+element-copy-out-t29 c = search needs
 
-element-copy-out-t33 : tie.Need-element-copy-out-t33
-element-copy-out-t33 c = search needs
+element-copy-out-t32 : tie.Need-element-copy-out-t32
+element-copy-out-t32 c = search needs
 
 diagnosis-in-requires : tie.Need-diagnosis-in-requires
 diagnosis-in-requires c κs = search needs
 
 parameters-in-requires : tie.Need-parameters-in-requires
 parameters-in-requires c κs = search needs
+
+unlisted-by-requires : tie.Need-unlisted-by-requires
+unlisted-by-requires c κs = search needs
 
 returns : tie.Need-returns
 unfolding contentBy
@@ -87,8 +90,8 @@ returns-11 c = simp (c .match .keys11)
 returns-12 : tie.Need-returns-12
 unfolding contentBy
 returns-12 c =
-    let r = c .match .rest in
-    simp (ne-eqb _ _ (r .1), ne-eqb _ _ (r .0 .1), ne-eqb _ _ (r .0 .0 .1), ne-eqb _ _ (r .0 .0 .0 .1), ne-eqb _ _ (r .0 .0 .0 .0 .1), ne-eqb _ _ (r .0 .0 .0 .0 .0 .1), ne-eqb _ _ (r .0 .0 .0 .0 .0 .0 .1), ne-eqb _ _ (r .0 .0 .0 .0 .0 .0 .0 .1), ne-eqb _ _ (r .0 .0 .0 .0 .0 .0 .0 .0 .1), ne-eqb _ _ (r .0 .0 .0 .0 .0 .0 .0 .0 .0 .1), ne-eqb _ _ (r .0 .0 .0 .0 .0 .0 .0 .0 .0 .0 .1))
+    let r = c .before .match .rest in
+    simp (ne-eqb _ _ (r .1), ne-eqb _ _ (r .0 .1), ne-eqb _ _ (r .0 .0 .1), ne-eqb _ _ (r .0 .0 .0 .1), ne-eqb _ _ (r .0 .0 .0 .0 .1), ne-eqb _ _ (r .0 .0 .0 .0 .0 .1), ne-eqb _ _ (r .0 .0 .0 .0 .0 .0 .1), ne-eqb _ _ (r .0 .0 .0 .0 .0 .0 .0 .1), ne-eqb _ _ (r .0 .0 .0 .0 .0 .0 .0 .0 .1), ne-eqb _ _ (r .0 .0 .0 .0 .0 .0 .0 .0 .0 .1), ne-eqb _ _ (r .0 .0 .0 .0 .0 .0 .0 .0 .0 .0 .1)) (c .unlisted-by .ensures)
 
 pub content-in-spec : {M : Type 1} → statement M
 content-in-spec =
@@ -101,10 +104,11 @@ content-in-spec =
     element-copy-out-join16-2
     join16-requires
     element-copy-out-t22
-    element-copy-out-t30
-    element-copy-out-t33
+    element-copy-out-t29
+    element-copy-out-t32
     diagnosis-in-requires
     parameters-in-requires
+    unlisted-by-requires
     returns
     returns-2
     returns-3

@@ -1,20 +1,11 @@
 -- `service_fields::own_of` meets its contract, content by content.
 use mathlib.Core.Path.{_≡_, refl, sym, ap, _∙_}
-use mathlib.Core.Bool.{Bool, true, false}
 use mathlib.Core.List.{List, [], _∷_, _++_}
 use Prim.Native.Nat.{ℕ}
-use mir.Val.{boolByte}
-use Rattle.octets.specs.Choice.{pick}
-use Rattle.octets.specs.Number.{bytesOf}
 use Rattle.service_fields.specs.Service.{placesOf, ownFields}
 use borrow.Author.Needs.{needs}
 use Rattle.service_fields.proofs.own_of.Statement.{statement}
 use Rattle.service_fields.proofs.own_of.Tie as tie
-
--- a bool as a byte
-as-byte : (b : Bool) → boolByte b ≡ pick b 1 0
-as-byte true = refl
-as-byte false = refl
 
 -- four fields of a call or an answer
 dpv1 : {o p q : List ℕ} → o ≡ 51 ∷ placesOf 10 p → p ≡ q → o ≡ 51 ∷ placesOf 10 q
@@ -58,9 +49,6 @@ cast-t17 c = search needs
 
 cast-t19 : tie.Need-cast-t19
 cast-t19 c = search needs
-
-cast-t20 : tie.Need-cast-t20
-cast-t20 c = search needs
 
 led-requires-5 : tie.Need-led-requires-5
 led-requires-5 c κs = search needs
@@ -126,10 +114,7 @@ returns-4 : tie.Need-returns-4
 returns-4 c = c .led4 .ensures ∙ sym (ap ownFields (c .before .enum-told2 .given .1))
 
 returns-5 : tie.Need-returns-5
-returns-5 c =
-    let t = c .before .before .before in
-    let f = t .content3 .given .0 .0 in
-    c .led5 .ensures ∙ ap (λ (n : ℕ). 55 ∷ placesOf 10 (f .address ∷ (bytesOf 2 (f .ident) ++ (n ∷ [])))) (as-byte (f .locked)) ∙ sym (ap ownFields (t .content3 .given .1))
+returns-5 c = c .led5 .ensures ∙ sym (ap ownFields (c .before .before .content3 .given .1))
 
 returns-6 : tie.Need-returns-6
 returns-6 c = c .led6 .ensures ∙ sym (ap ownFields (c .before .enum-told3 .given .1))
@@ -172,7 +157,6 @@ own-of-spec =
     enum-known-content-3
     cast-t17
     cast-t19
-    cast-t20
     led-requires-5
     enum-told-3
     led-requires-6

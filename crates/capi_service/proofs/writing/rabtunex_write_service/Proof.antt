@@ -21,18 +21,19 @@ Outcome out before r after count v t =
 unstored : (out : List ℕ) (before k : ℕ) (t : List ℕ) → Outcome out before k out before (fault k) t
 unstored out before k t = let e = refused k t out in rw (← (e .0)) (refl, (e .1, refl))
 
--- in a known version it goes by the kind
+-- in a known version and a known way it goes by the kind
 by-kind : (c : tie.After-kind-of) {k : Kind} {r : ℕ} {after : List ℕ} {count : ℕ} → c .kind-of .result ≡ k →
-    let a = c .before .before .before .before .before .args in
+    let a = c .before .before .before .before .before .before .before .args in
     let named = contentIn (a .fields .now) (a .version) in
     let outcome = Outcome (a .out .now) (a .stored .now) r after count in
     outcome (kindVerdict k named (a .fields .now) (a .part .now)) (kindBytes k named (a .fields .now) (a .part .now))
     → outcome (verdictIn (a .fields .now) (a .version) (a .part .now)) (bytesIn (a .fields .now) (a .version) (a .part .now))
 by-kind c {k} {r} {after} {count} e o =
-    let i = c .before .before in
-    let a = i .before .before .before .args in
+    let w = c .before .before in
+    let v = w .before .before in
+    let a = v .before .before .before .args in
     let named = contentIn (a .fields .now) (a .version) in
-    simp (le-ltb _ _ (i .if1 .left))
+    simp (le-ltb _ _ (v .if1 .left), le-ltb _ _ (w .if2 .left))
     (subst
     (λ (x : Kind). Outcome (a .out .now) (a .stored .now) r after count (kindVerdict x named (a .fields .now) (a .part .now)) (kindBytes x named (a .fields .now) (a .part .now)))
     (sym e ∙ c .kind-of .ensures)
@@ -42,6 +43,15 @@ returns : tie.Need-returns
 returns c =
     let a = c .before .before .before .args in
     simp (lt-ltb _ _ (c .if1 .taken)) (unstored (a .out .now) (a .stored .now) 12 (bytesIn (a .fields .now) (a .version) (a .part .now)))
+
+element-copy-out-if2 : tie.Need-element-copy-out-if2
+element-copy-out-if2 c = search needs
+
+returns-2 : tie.Need-returns-2
+returns-2 c =
+    let v = c .before .before in
+    let a = v .before .before .before .args in
+    simp (le-ltb _ _ (v .if1 .left), lt-ltb _ _ (c .if2 .taken)) (unstored (a .out .now) (a .stored .now) 12 (bytesIn (a .fields .now) (a .version) (a .part .now)))
 
 element-copy-out-kind-of : tie.Need-element-copy-out-kind-of
 element-copy-out-kind-of c = search needs
@@ -61,6 +71,9 @@ enum-known-kind c = search needs
 content-in-requires : tie.Need-content-in-requires
 content-in-requires c κs = search needs
 
+right-way-requires : tie.Need-right-way-requires
+right-way-requires c κs = search needs
+
 write-named-requires : tie.Need-write-named-requires
 write-named-requires c κs = search needs
 
@@ -70,42 +83,46 @@ store-count-requires c κs = search needs
 enum-told-3 : tie.Need-enum-told-3
 enum-told-3 c = search needs
 
-returns-2 : tie.Need-returns-2
-returns-2 c = by-kind (c .before .before) (c .enum-told .given .1) (unstored _ _ 12 [])
-
 returns-3 : tie.Need-returns-3
-returns-3 c = by-kind (c .before .before) (c .enum-told2 .given .1) (unstored _ _ 12 [])
+returns-3 c = by-kind (c .before .before) (c .enum-told .given .1) (unstored _ _ 12 [])
+
+returns-4 : tie.Need-returns-4
+returns-4 c = by-kind (c .before .before) (c .enum-told2 .given .1) (unstored _ _ 12 [])
 
 same-length : tie.Need-same-length
 same-length c = search needs
 
-returns-4 : tie.Need-returns-4
-returns-4 c =
+returns-5 : tie.Need-returns-5
+returns-5 c =
     let w = c .before .before .before .before in
-    let n = w .before .before in
+    let r = w .before .before in
+    let n = r .before in
     let t = n .before .before in
-    let e = rw (n .content-in .ensures) at (w .write-named .ensures) in
+    let e = rw (n .content-in .ensures, r .right-way .ensures) at (w .write-named .ensures) in
     by-kind (t .before .before) (t .kind .given .1) (rw (← (e .0)) (c .store-count .ensures .0, (e .1, c .store-count .ensures .1)))
 
-returns-5 : tie.Need-returns-5
-returns-5 c = by-kind (c .before .before) (c .enum-told3 .given .1) (unstored _ _ 12 [])
+returns-6 : tie.Need-returns-6
+returns-6 c = by-kind (c .before .before) (c .enum-told3 .given .1) (unstored _ _ 12 [])
 
 pub rabtunex-write-service-spec : {M : Type 1} → statement M
 rabtunex-write-service-spec =
     tie.close
     (tie.spec
     returns
+    element-copy-out-if2
+    returns-2
     element-copy-out-kind-of
     kind-of-requires
     enum-told
     enum-told-2
     enum-known-kind
     content-in-requires
+    right-way-requires
     write-named-requires
     store-count-requires
     enum-told-3
-    returns-2
     returns-3
-    same-length
     returns-4
-    returns-5)
+    same-length
+    returns-5
+    returns-6)

@@ -1,21 +1,30 @@
 //! A DPV1 call or answer as the number and three bytes of the C interface
 //! (`include/rabtunex.h`).
 
-use rabtunex_tests::reference::acyclic::{Alarm, Answer, Call, CallError, Failed};
+use super::acyclic::{Alarm, Answer, Call, CallError, Failed};
 
 /// The function number and three bytes that depend on it, 0 where it has none.
 pub type Fields = [u8; 4];
 
-/// The function numbers; a poll has none, and 0 stands for it.
+/// The function numbers: a poll has none, and this stands for it.
 pub const POLL: u8 = 0x00;
+/// Idle, both ways.
 pub const IDLE: u8 = 0x48;
+/// Data transport, both ways.
 pub const TRANSPORT: u8 = 0x51;
+/// Alarm acknowledgement, both ways.
 pub const ALARM_ACK: u8 = 0x5C;
+/// Read, both ways.
 pub const READ: u8 = 0x5E;
+/// Write, both ways.
 pub const WRITE: u8 = 0x5F;
+/// A negative answer to data transport.
 pub const NEGATIVE_TRANSPORT: u8 = 0xD1;
+/// A negative answer to an alarm acknowledgement.
 pub const NEGATIVE_ALARM_ACK: u8 = 0xDC;
+/// A negative answer to a read.
 pub const NEGATIVE_READ: u8 = 0xDE;
+/// A negative answer to a write.
 pub const NEGATIVE_WRITE: u8 = 0xDF;
 
 /// The fields of a call.
