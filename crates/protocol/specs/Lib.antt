@@ -5,6 +5,7 @@ pub mod Telegrams
 pub mod Printer
 pub mod Line
 pub mod Controller
+pub mod Reply
 pub mod Download
 pub mod Words
 pub mod Endings

@@ -68,7 +68,7 @@ module _ (c : Settings) (s : List ℕ) where
   format Sd2 e = refl
   format Sd3 e = absurd (never e)
 
-  own : (f : Format) (h : Header) (start len : ℕ) → isPrinters c f h ≡ true → Own c (telegram-reading.Telegram f h start len)
+  pub own : (f : Format) (h : Header) (start len : ℕ) → isPrinters c f h ≡ true → Own c (telegram-reading.Telegram f h start len)
   own f h start len e =
       let code : Bool = eqb (h .fc) replyCode in
       let from : Bool = eqb (h .sa) (c .printer) in
@@ -98,14 +98,50 @@ module _ (c : Settings) (s : List ℕ) where
 
 -- ---- what follows a request
 
--- how a download ends at a job for template k, where `left` is the book from it on and g was got
-pub data Ends (k : ℕ) (j : Job) (left : List Entry) (g : Got) : Ending → Type 0 where
-  done : {n : ℕ} {t : Entry} → j ≡ job.Poll n → g ≡ positive 1 (t .slot) (length (t .body)) → left ≡ t ∷ [] → Ends k j left g ending.Done
-  past : left ≡ [] → Ends k j left g ending.Done
-  refused : {n code1 code2 : ℕ} → j ≡ job.Poll n → g ≡ negative code1 code2 → Ends k j left g (ending.Refused k code1 code2)
-  unanswered : Ends k j left g (ending.NoAnswer k)
-  late : Ends k j left g (ending.NotReady k)
-  strange : Ends k j left g (ending.Strange k)
+abbrev pub isPoll : Job → Bool
+isPoll job.Write = false
+isPoll (job.Poll left) = true
+
+-- is it the 5F for the template in front of what is left: the write's slot, index and length; any, where none is left
+abbrev pub isOwn : (left : List Entry) → (slot index len : ℕ) → Bool
+isOwn [] slot index len = true
+isOwn (t ∷ ts) slot index len = eqb slot 1 and eqb index (t .slot) and eqb len (length (t .body))
+
+-- a reply, and neither SC nor, to a poll, the printer's DF or the 5F for its template
+abbrev pub isForeign : Job → (left : List Entry) → Got → Bool
+isForeign j left nothing = false
+isForeign j left confirmation = false
+isForeign j left diagnosis = true
+isForeign j left (positive slot index len) = not (isPoll j and isOwn left slot index len)
+isForeign j left (negative code1 code2) = not (isPoll j)
+isForeign j left other = true
+
+abbrev pub isSome : ℕ → Bool
+isSome zero = false
+isSome (suc n) = true
+
+-- may a poll follow on SC
+abbrev pub morePolls : Job → Bool
+morePolls job.Write = true
+morePolls (job.Poll n) = isSome n
+
+-- does a request follow, or done where no template is left
+abbrev pub isFollowed : Job → (repeats : ℕ) → Got → Bool
+isFollowed j r nothing = isSome r
+isFollowed j r confirmation = morePolls j
+isFollowed j r diagnosis = false
+isFollowed j r (positive slot index len) = isPoll j
+isFollowed j r (negative code1 code2) = false
+isFollowed j r other = false
+
+-- how a download ends at a job for template k, with r repeats left, where `left` is the book from it on and g was got
+pub data Ends (k : ℕ) (j : Job) (r : ℕ) (left : List Entry) (g : Got) : Ending → Type 0 where
+  done : {n : ℕ} {t : Entry} → j ≡ job.Poll n → g ≡ positive 1 (t .slot) (length (t .body)) → left ≡ t ∷ [] → Ends k j r left g ending.Done
+  past : left ≡ [] → isFollowed j r g ≡ true → Ends k j r left g ending.Done
+  refused : {n code1 code2 : ℕ} → j ≡ job.Poll n → g ≡ negative code1 code2 → Ends k j r left g (ending.Refused k code1 code2)
+  unanswered : g ≡ nothing → r ≡ 0 → Ends k j r left g (ending.NoAnswer k)
+  late : j ≡ job.Poll 0 → g ≡ confirmation → Ends k j r left g (ending.NotReady k)
+  strange : isForeign j left g ≡ true → Ends k j r left g (ending.Strange k)
 
 -- the polls left after the first poll of a template, and after each further one
 pub data PollsLeft (c : Settings) : Job → ℕ → Type 0 where
@@ -120,31 +156,38 @@ pub data After (c : Settings) (k : ℕ) (j : Job) (fcb : Bool) (r : ℕ) (left :
       → After c k j fcb r left g (go (requestBytes c (job.Poll n) (not fcb) t) (controller.Asking k (job.Poll n) (not fcb) (c .repeats)))
   written : {n : ℕ} {t u : Entry} {ts : List Entry} → j ≡ job.Poll n → g ≡ positive 1 (t .slot) (length (t .body)) → left ≡ t ∷ u ∷ ts
       → After c k j fcb r left g (go (requestBytes c job.Write (not fcb) u) (controller.Asking (suc k) job.Write (not fcb) (c .repeats)))
-  ended : {e : Ending} → Ends k j left g e → After c k j fcb r left g (stop e)
+  ended : {e : Ending} → Ends k j r left g e → After c k j fcb r left g (stop e)
+
+pub own-is : (t : Entry) (ts : List Entry) (slot index len : ℕ) → isOwn (t ∷ ts) slot index len ≡ true → positive slot index len ≡ positive 1 (t .slot) (length (t .body))
+own-is t ts slot index len e =
+    let a : Bool = eqb slot 1 in
+    let b : Bool = eqb index (t .slot) in
+    let d : Bool = eqb len (length (t .body)) in
+    let e2 : (b and d) ≡ true = and-right a (b and d) e in
+    rw (eqb-true slot 1 (and-left a (b and d) e), eqb-true index (t .slot) (and-left b d e2), eqb-true len (length (t .body)) (and-right b d e2))
+
+more-polls : {c : Settings} {j : Job} {n : ℕ} → PollsLeft c j n → morePolls j ≡ true
+more-polls all = refl
+more-polls fewer = refl
 
 module _ (c : Settings) (k : ℕ) (fcb : Bool) (r : ℕ) where
   by-none : (j : Job) (left : List Entry) → After c k j fcb r left nothing (again c k j fcb r left)
   by-none j left = by r left refl refl
     where
       by : (n : ℕ) (ts : List Entry) → r ≡ n → left ≡ ts → After c k j fcb r left nothing (again c k j fcb n ts)
-      by zero ts e l = ended unanswered
-      by (suc n) [] e l = ended (past l)
+      by zero ts e l = ended (unanswered refl e)
+      by (suc n) [] e l = ended (past l (ap isSome e))
       by (suc n) (t ∷ ts) e l = repeated refl e l
 
   by-confirmation : (j : Job) (n : ℕ) (left : List Entry) → PollsLeft c j n → After c k j fcb r left confirmation (askFor c k (job.Poll n) (not fcb) (c .repeats) left)
-  by-confirmation j n [] p = ended (past refl)
+  by-confirmation j n [] p = ended (past refl (more-polls p))
   by-confirmation j n (t ∷ ts) p = polled p refl refl
 
   by-positive : (n slot index len : ℕ) (left : List Entry) → After c k (job.Poll n) fcb r left (positive slot index len) (settled c k fcb slot index len left)
-  by-positive n slot index len [] = ended (past refl)
+  by-positive n slot index len [] = ended (past refl refl)
   by-positive n slot index len (t ∷ ts) =
-      let a : Bool = eqb slot 1 in
-      let b : Bool = eqb index (t .slot) in
-      let d : Bool = eqb len (length (t .body)) in
-      by-pick (After c k (job.Poll n) fcb r (t ∷ ts) (positive slot index len)) (a and b and d) (λ e.
-      let e2 : (b and d) ≡ true = and-right a (b and d) e in
-      next ts (rw (eqb-true slot 1 (and-left a (b and d) e), eqb-true index (t .slot) (and-left b d e2), eqb-true len (length (t .body)) (and-right b d e2))))
-      (λ _. ended strange)
+      by-pick (After c k (job.Poll n) fcb r (t ∷ ts) (positive slot index len)) (isOwn (t ∷ ts) slot index len)
+      (λ e. next ts (own-is t ts slot index len e)) (λ e. ended (strange (ap not e)))
     where
       next : (l : List Entry) → positive slot index len ≡ positive 1 (t .slot) (length (t .body))
           → After c k (job.Poll n) fcb r (t ∷ l) (positive slot index len) (askFor c (suc k) job.Write (not fcb) (c .repeats) l)
@@ -154,17 +197,17 @@ module _ (c : Settings) (k : ℕ) (fcb : Bool) (r : ℕ) where
   by-job : (j : Job) (left : List Entry) (g : Got) → After c k j fcb r left g (afterJob c k j fcb r left g)
   by-job job.Write left nothing = by-none job.Write left
   by-job job.Write left confirmation = by-confirmation job.Write (c .polls - 1) left all
-  by-job job.Write left diagnosis = ended strange
-  by-job job.Write left (positive slot index len) = ended strange
-  by-job job.Write left (negative code1 code2) = ended strange
-  by-job job.Write left other = ended strange
+  by-job job.Write left diagnosis = ended (strange refl)
+  by-job job.Write left (positive slot index len) = ended (strange refl)
+  by-job job.Write left (negative code1 code2) = ended (strange refl)
+  by-job job.Write left other = ended (strange refl)
   by-job (job.Poll n) left nothing = by-none (job.Poll n) left
-  by-job (job.Poll zero) left confirmation = ended late
+  by-job (job.Poll zero) left confirmation = ended (late refl refl)
   by-job (job.Poll (suc n)) left confirmation = by-confirmation (job.Poll (suc n)) n left fewer
-  by-job (job.Poll n) left diagnosis = ended strange
+  by-job (job.Poll n) left diagnosis = ended (strange refl)
   by-job (job.Poll n) left (positive slot index len) = by-positive n slot index len left
   by-job (job.Poll n) left (negative code1 code2) = ended (refused refl refl)
-  by-job (job.Poll n) left other = ended strange
+  by-job (job.Poll n) left other = ended (strange refl)
 
 -- the controller's move from a job
 pub after : (c : Settings) (book : List Entry) (k : ℕ) (j : Job) (fcb : Bool) (r : ℕ) (s : List ℕ)
@@ -174,23 +217,33 @@ after c book k j fcb r s = by-job c k fcb r j (drop (k - 1) book) (gotIn c s)
 
 -- ---- the frame count bit
 
--- what may follow the opening by what was got: on a diagnosis the first template's write with FCB 0; or the end
+abbrev pub isDiagnosis : Got → Bool
+isDiagnosis nothing = false
+isDiagnosis confirmation = false
+isDiagnosis diagnosis = true
+isDiagnosis (positive slot index len) = false
+isDiagnosis (negative code1 code2) = false
+isDiagnosis other = false
+
+-- what follows the opening by what was got: on a diagnosis the first template's write with FCB 0, done where the book has none;
+-- on anything else no opening
 pub data Begins (c : Settings) (book : List Entry) (g : Got) : Move → Type 0 where
   first : (t : Entry) {ts : List Entry} → g ≡ diagnosis → book ≡ t ∷ ts
       → Begins c book g (go (requestBytes c job.Write false t) (controller.Asking 1 job.Write false (c .repeats)))
-  ends : {e : Ending} → Begins c book g (stop e)
+  empty : g ≡ diagnosis → book ≡ [] → Begins c book g (stop ending.Done)
+  unopened : isDiagnosis g ≡ false → Begins c book g (stop ending.NoOpening)
 
 module _ (c : Settings) where
   by-got : (book : List Entry) (g : Got) → Begins c book g (moveBy c book controller.Opening g)
-  by-got book nothing = ends
-  by-got book confirmation = ends
-  by-got [] diagnosis = ends
+  by-got book nothing = unopened refl
+  by-got book confirmation = unopened refl
+  by-got [] diagnosis = empty refl refl
   by-got (t ∷ ts) diagnosis = first t refl refl
-  by-got book (positive slot index len) = ends
-  by-got book (negative code1 code2) = ends
-  by-got book other = ends
+  by-got book (positive slot index len) = unopened refl
+  by-got book (negative code1 code2) = unopened refl
+  by-got book other = unopened refl
 
-  -- The first request after the opening has FCB 0.
+  -- The opening is followed so: the first request after it has FCB 0.
   pub first-fcb : (book : List Entry) (s : List ℕ) → Begins c book (gotIn c s) (moveOf c book controller.Opening s)
   unfolding moveOf
   first-fcb book s = by-got book (gotIn c s)
@@ -243,7 +296,8 @@ place i = omega arith
 module _ (c : Settings) (book : List Entry) where
   by-begin : {g : Got} {m : Move} → Begins c book g m → Sends c book m
   by-begin (first t d e) = asks 0 job.Write false (c .repeats) t e
-  by-begin ends = ends
+  by-begin (empty d e) = ends
+  by-begin (unopened d) = ends
 
   by-after : {i : ℕ} {j : Job} {fcb : Bool} {r : ℕ} {left : List Entry} {g : Got} {m : Move} → drop i book ≡ left → After c (suc i) j fcb r left g m → Sends c book m
   by-after {i} {j} {fcb} d (repeated {n} {t} a b l) = asks i j fcb n t (d ∙ l)
@@ -294,10 +348,6 @@ isFresh controller.Fresh = true
 isFresh controller.Opening = false
 isFresh (controller.Asking k j fcb r) = false
 
-abbrev pub isPoll : Job → Bool
-isPoll job.Write = false
-isPoll (job.Poll left) = true
-
 -- The printer's DF ends every download, and not well.
 pub negative-ends : (c : Settings) (book : List Entry) (o : Controller) (s : List ℕ) {code1 code2 : ℕ} → isFresh o ≡ false
     → gotIn c s ≡ negative code1 code2 → goesOn (moveOf c book o s) ≡ false
@@ -339,22 +389,22 @@ module _ (c : Settings) (k : ℕ) (j : Job) (fcb : Bool) (r : ℕ) {left : List 
   takes (polled p a l) t e f = confirmed a
   takes (written {t = t′} p a l) t e f = own-result t t′ e l p a
   takes (ended (done {t = t′} p a l)) t e f = own-result t t′ e l p a
-  takes (ended (past l)) t e f = absurd (let z : _≡_ {A = ℕ} 0 1 = cc in omega arith)
+  takes (ended (past l b)) t e f = absurd (let z : _≡_ {A = ℕ} 0 1 = cc in omega arith)
   takes (ended (refused p a)) t e f = absurd (never f)
-  takes (ended unanswered) t e f = absurd (never f)
-  takes (ended late) t e f = absurd (never f)
-  takes (ended strange) t e f = absurd (never f)
+  takes (ended (unanswered a b)) t e f = absurd (never f)
+  takes (ended (late p a)) t e f = absurd (never f)
+  takes (ended (strange a)) t e f = absurd (never f)
 
   refusal : {m : Move} → After c k j fcb r left g m → Refusal k j g m
   refusal (repeated a b l) = tt
   refusal (polled p a l) = tt
   refusal (written p a l) = tt
   refusal (ended (done p a l)) = tt
-  refusal (ended (past l)) = tt
+  refusal (ended (past l f)) = tt
   refusal (ended (refused p a)) = (refl, ap isPoll p, a)
-  refusal (ended unanswered) = tt
-  refusal (ended late) = tt
-  refusal (ended strange) = tt
+  refusal (ended (unanswered a b)) = tt
+  refusal (ended (late p a)) = tt
+  refusal (ended (strange a)) = tt
 
 module _ (c : Settings) (book : List Entry) (k : ℕ) (j : Job) (fcb : Bool) (r : ℕ) (s : List ℕ) where
   -- A download goes on from template t only where it got nothing, SC, or the result of exactly its write.

@@ -2,7 +2,7 @@
 use Prim.Native.Nat.{ℕ, zero, suc, _-_, _%_, _≤_, _<_}
 use mathlib.Core.Path.{_≡_, refl, sym, ap, _∙_, subst}
 use mathlib.Core.Bool.{Bool, true, false, not}
-use mathlib.Core.List.{List}
+use mathlib.Core.List.{List, [], _∷_}
 use native.Mathlib.Omega.{arith}
 use lib.Dec.{eqb, ltb}
 use lib.ListN.{length, drop, length-drop}
@@ -15,7 +15,7 @@ use Rattle.protocol.specs.Bits.{sameBit}
 use Rattle.protocol.specs.Line.{go, stop}
 use Rattle.protocol.specs.Lemmas.Accepted.{settled}
 use Rattle.protocol.specs.Controller.{Got, Move, moveOf, settingsVerdict, requestsBefore, wrongFcb, tooManyPolls, stateVerdict}
-use Rattle.protocol.specs.MachineLaws.Controller.{PollsLeft, all, fewer, After, repeated, polled, written, ended, after, Begins, first, ends, first-fcb, fromOne}
+use Rattle.protocol.specs.MachineLaws.Controller.{PollsLeft, all, fewer, After, repeated, polled, written, ended, after, Begins, first, empty, unopened, first-fcb, fromOne}
 use Rattle.protocol.specs.declared.controller.Settings.{Settings}
 use Rattle.protocol.specs.declared.controller.Job.{Job}
 use Rattle.protocol.specs.declared.controller.Job.the-variants as job
@@ -130,7 +130,8 @@ module _ (c : Settings) (book : List Entry) (p : 1 ≤ c .polls) where
   from-opening (first t d e) =
       may-stand c (length book) 1 job.Write false (c .repeats)
       (record { from-one = omega arith; within = omega (arith, ap length e); polls = refl; repeats = omega arith; right-fcb = refl })
-  from-opening ends = tt
+  from-opening (empty d e) = tt
+  from-opening (unopened d) = tt
 
 -- A state that is not refused counts templates from 1.
 pub state-counts : (c : Settings) (n : ℕ) (o : Controller) → stateVerdict c n o ≡ fine → fromOne o ≡ true
@@ -150,3 +151,19 @@ state-kept c book o s v w e = subst (Kept c book (settled c v .some-polls)) e (b
     by controller.Fresh z = refl
     by controller.Opening z = from-opening c book (settled c v .some-polls) (first-fcb c book s)
     by (controller.Asking k j fcb r) z = from-job c book (settled c v .some-polls) (stands c (length book) k j fcb r z) (after c book k j fcb r s)
+
+-- the template at k, and those behind it
+pub record Template (book : List Entry) (k : ℕ) : Type 0 where
+  pub entry : Entry
+  pub behind : List Entry
+  pub there : drop (k - 1) book ≡ entry ∷ behind
+
+-- The template of a state that is not refused stands in the book.
+pub template-there : (c : Settings) (book : List Entry) (k : ℕ) (j : Job) (fcb : Bool) (r : ℕ) → stateVerdict c (length book) (controller.Asking k j fcb r) ≡ fine → Template book k
+template-there c book k j fcb r e =
+    let s = stands c (length book) k j fcb r e in
+    by (drop (k - 1) book) refl (omega (arith, s .from-one, s .within, length-drop (k - 1) book))
+  where
+    by : (left : List Entry) → drop (k - 1) book ≡ left → 1 ≤ length (drop (k - 1) book) → Template book k
+    by [] q some = absurd (omega (arith, ap length q))
+    by (t ∷ ts) q some = record { entry = t; behind = ts; there = q }
