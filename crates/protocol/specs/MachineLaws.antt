@@ -1,4 +1,8 @@
 pub mod Printer
+pub mod Effects
+pub mod Calls
+pub mod Answers
+pub mod Memory
 pub mod Replies
 pub mod Controller
 pub mod Got
@@ -6,3 +10,4 @@ pub mod Moves
 pub mod Room
 pub mod States
 pub mod Stations
+pub mod WorkedCalls

@@ -14,6 +14,7 @@ use Rattle.protocol.specs.Printer.{Received, nothing, elsewhere, status,
 use Rattle.protocol.specs.Lemmas.Accepted.{Usable, usable}
 use Rattle.protocol.specs.Lemmas.Replies.{Valid, valid}
 use Rattle.protocol.specs.Lemmas.Slots.{written-sized}
+use Rattle.protocol.specs.MachineLaws.Memory.{keeps-itself}
 use Rattle.protocol.specs.MachineLaws.Printer.{Changes, kept, stored, slots-change}
 use Rattle.protocol.specs.MachineLaws.Room.{over-long, reply-fits}
 
@@ -36,24 +37,20 @@ lengths-kept : {boarding : Bool} {s s′ : Slots} → Changes boarding s s′ �
 lengths-kept kept e = e
 lengths-kept {s = s} (stored index body i l f) e = short-lengths (s .lengths) index (length body) l e
 
--- its address, and the length of the buffer
-record Same (x y : Station) : Type 0 where
-  address : y .printer .address ≡ x .printer .address
-  long : length (y .buffer) ≡ length (x .buffer)
-
+-- the length of the buffer
 module _ (diag : List ℕ) (n : ℕ) (x : Station) (v : Valid diag) (room : 255 ≤ length (x .buffer)) where
   still-long : (sa : ℕ) (r : Reply) → length (over (replyBytes diag (x .printer .address) sa r) (x .buffer)) ≡ length (x .buffer)
   still-long sa r = over-long (replyBytes diag (x .printer .address) sa r) (x .buffer) (omega (arith, reply-fits diag (x .printer .address) sa r v))
 
-  same-heard : (r : Received) → Same x (heardBy diag n r x .station)
-  same-heard nothing = record { address = refl; long = refl }
-  same-heard elsewhere = record { address = refl; long = refl }
-  same-heard uncounted = record { address = refl; long = refl }
-  same-heard (status sa) = record { address = refl; long = still-long sa (bare 0) }
-  same-heard (opening sa ask) = record { address = refl; long = still-long sa (openingReply ask) }
-  same-heard (counted fcb sa ask) =
-      by-pick (λ (h : Heard). Same x (h .station)) (isRepeat (x .printer) fcb sa) (λ _. record { address = refl; long = refl }) (λ _.
-      record { address = refl; long = still-long sa (perform (x .printer .boarding) n (x .printer .pending) (x .slots) (x .printer .writes) ask .reply) })
+  long-heard : (r : Received) → length (heardBy diag n r x .station .buffer) ≡ length (x .buffer)
+  long-heard nothing = refl
+  long-heard elsewhere = refl
+  long-heard uncounted = refl
+  long-heard (status sa) = still-long sa (bare 0)
+  long-heard (opening sa ask) = still-long sa (openingReply ask)
+  long-heard (counted fcb sa ask) =
+      by-pick (λ (h : Heard). length (h .station .buffer) ≡ length (x .buffer)) (isRepeat (x .printer) fcb sa) (λ _. refl) (λ _.
+      still-long sa (perform (x .printer .boarding) n (x .printer .pending) (x .slots) (x .printer .writes) ask .reply))
 
 -- A printer that may be used may be used after whatever it hears,
 pub station-kept : (diag : List ℕ) (n : ℕ) (s : List ℕ) (x : Station) → verdictOf diag x ≡ fine → verdictOf diag (hear diag n s x .station) ≡ fine
@@ -61,9 +58,10 @@ unfolding hear
 station-kept diag n s x e =
     let u = usable diag x e in
     let y : Station = hear diag n s x .station in
-    let same = same-heard diag n x (valid diag (u .diagnosis)) (ltb-false (length (x .buffer)) 255 (u .room)) (receivedOf (x .printer .address) s) in
+    let same = keeps-itself diag n s x in
+    let long = long-heard diag n x (valid diag (u .diagnosis)) (ltb-false (length (x .buffer)) 255 (u .room)) (receivedOf (x .printer .address) s) in
     let lengths = lengths-kept (slots-change diag n s x) (u .lengths) in
-    may-be-used diag y (record { address = rw (same .address) (u .address); lengths = lengths; diagnosis = u .diagnosis; room = rw (same .long) (u .room) })
+    may-be-used diag y (record { address = rw (same .address) (u .address); lengths = lengths; diagnosis = u .diagnosis; room = rw long (u .room) })
 
 -- and has its sixteen slots.
 pub slots-sized : (diag : List ℕ) (n : ℕ) (s : List ℕ) (x : Station) → Sized (x .slots) → Sized (hear diag n s x .station .slots)
