@@ -60,3 +60,27 @@ answerNamed n a b c =
     (pick (eqb n alarmAckNumber) (case.Answer (answer.AlarmAck a b c))
     (pick (eqb n idleNumber) (case.Answer answer.Idle)
     (pick (eqb n transportNumber) (case.Answer (answer.Transport a b)) (negativeNamed (failedBy n) a b c)))))
+
+-- ---- how many of the four a case has, from the first on
+
+-- a poll's and idle's number stands alone; where data say the length, the last is free
+abbrev pub callPlaces : Call → ℕ
+callPlaces call.Poll = 1
+callPlaces (call.Read slot index l) = 4
+callPlaces (call.Write slot index) = 3
+callPlaces (call.AlarmAck slot alarm specifier) = 4
+callPlaces call.Idle = 1
+callPlaces (call.Transport slot index) = 3
+
+abbrev pub answerPlaces : Answer → ℕ
+answerPlaces (answer.Read slot index) = 3
+answerPlaces (answer.Write slot index l) = 4
+answerPlaces (answer.AlarmAck slot alarm specifier) = 4
+answerPlaces answer.Idle = 1
+answerPlaces (answer.Transport slot index) = 3
+answerPlaces (answer.Negative f decode code1 code2) = 4
+
+abbrev pub placesIn : Case → ℕ
+placesIn (case.Call c) = callPlaces c
+placesIn (case.Answer x) = answerPlaces x
+placesIn case.Unknown = 0

@@ -4,6 +4,7 @@
 use Prim.Native.Nat.{ℕ}
 use mathlib.Core.List.{List, [], _∷_, _++_}
 use lib.ListN.{getD}
+use Rattle.octets.specs.Part.{partOf}
 use Rattle.octets.specs.Front.{Verdict, fault, answerBy, heldBy}
 use Rattle.octets.specs.declared.Written.{Written}
 use Rattle.acyclic.specs.Calls as calls
@@ -64,3 +65,8 @@ answerOf k part room = answerBy (verdictAt k part) (bytesAt k part) room
 
 abbrev pub heldOf : Case → (part out : List ℕ) → List ℕ
 heldOf k part out = heldBy (verdictAt k part) (bytesAt k part) out
+
+-- ---- the data that fields name in the bytes s
+
+abbrev pub partIn : (s fields : List ℕ) → List ℕ
+partIn s fields = partOf s (getD fields 4 0) (getD fields 5 0)

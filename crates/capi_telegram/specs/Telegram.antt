@@ -5,6 +5,7 @@ use mathlib.Core.List.{List, [], _∷_}
 use lib.ListN.{length, getD}
 use lib.Dec.{eqb}
 use Rattle.octets.specs.Choice.{pick}
+use Rattle.octets.specs.Part.{partOf}
 use Rattle.octets.specs.Front.{Verdict, fine, fault, answerBy, heldBy}
 use Rattle.octets.specs.declared.Written.{Written}
 use Rattle.fdl.specs.Writing.{telegramOf, verdictOf, tokenBytes, tokenVerdict, confirmationBytes}
@@ -34,12 +35,15 @@ refusalOf (Token da sa) = 0
 refusalOf (Telegram f h start len) = 0
 refusalOf (Refused r) = r .number
 
+-- the fields of SD1, SD2 and SD3
+abbrev pub telegramFields : (kind : ℕ) → Header → (start len : ℕ) → List ℕ
+telegramFields kind h start len = kind ∷ h .da ∷ h .sa ∷ h .fc ∷ sapNumber (h .dsap) ∷ sapNumber (h .ssap) ∷ start ∷ len ∷ []
+
 -- what the lent fields hold then
 abbrev pub fieldsAfter : Reading → (before : List ℕ) → List ℕ
 fieldsAfter Confirmation before = 0 ∷ 0 ∷ 0 ∷ 0 ∷ 255 ∷ 255 ∷ 0 ∷ 0 ∷ []
 fieldsAfter (Token da sa) before = 1 ∷ da ∷ sa ∷ 0 ∷ 255 ∷ 255 ∷ 0 ∷ 0 ∷ []
-fieldsAfter (Telegram f h start len) before =
-    formatNumber f ∷ h .da ∷ h .sa ∷ h .fc ∷ sapNumber (h .dsap) ∷ sapNumber (h .ssap) ∷ start ∷ len ∷ []
+fieldsAfter (Telegram f h start len) before = telegramFields (formatNumber f) h start len
 fieldsAfter (Refused r) before = before
 
 -- ---- writing, from the first six of the fields and the user data
@@ -75,3 +79,16 @@ answerOf fields user room = answerBy (verdictAt (kindOf (getD fields 0 0)) field
 
 abbrev pub heldOf : (fields user out : List ℕ) → List ℕ
 heldOf fields user out = heldBy (verdictAt (kindOf (getD fields 0 0)) fields user) (bytesAt (kindOf (getD fields 0 0)) fields user) out
+
+-- ---- what the laws speak of
+
+-- the user data that fields name in the bytes s
+abbrev pub userIn : (s fields : List ℕ) → List ℕ
+userIn s fields = partOf s (getD fields 6 0) (getD fields 7 0)
+
+-- how many of the fields a kind has, from the first on: the kind alone; DA and SA; FC, DSAP and SSAP
+abbrev pub placesOf : Kind → ℕ
+placesOf kind.Confirmation = 1
+placesOf kind.Token = 3
+placesOf (kind.Telegram f) = 6
+placesOf kind.Unknown = 0

@@ -1,11 +1,10 @@
 // Telegrams through the C interface, by the same eight fields for reading and writing.
 ghost use mathlib.Core.Path.{_≡_};
-ghost use mathlib.Core.List.{_∷_, []};
 ghost use lib.ListN.{length};
 ghost use Rattle.octets.specs.Front.{answerBy, heldBy};
 ghost use Rattle.fdl.specs.Reading.{readOf};
 ghost use Rattle.fields.specs.Outcome.{statusOf, countAfter};
-ghost use Rattle.capi_telegram.specs.Telegram.{sapNumber, sapOf, refusalOf, fieldsAfter, headerOf, verdictAt, bytesAt, answerOf, heldOf};
+ghost use Rattle.capi_telegram.specs.Telegram.{sapNumber, sapOf, refusalOf, telegramFields, fieldsAfter, headerOf, verdictAt, bytesAt, answerOf, heldOf};
 use fdl::Header;
 use fdl::Reading;
 use fdl::Sap;
@@ -36,7 +35,7 @@ fn sap_of(number: u8) -> Sap
 
 // Stores eight fields.
 fn put_fields(kind: u8, header: Header, start: u8, len: u8, fields: &mut [u8; 8])
-    ensures { λ _. ⌜ now (fields .exit) ≡ kind ∷ header .da ∷ header .sa ∷ header .fc ∷ sapNumber (header .dsap) ∷ sapNumber (header .ssap) ∷ start ∷ len ∷ [] ⌝ }
+    ensures { λ _. ⌜ now (fields .exit) ≡ telegramFields kind header start len ⌝ }
 {
     let dsap = header.dsap;
     let ssap = header.ssap;

@@ -1,5 +1,6 @@
 -- Kinds of telegram as numbers: 0 a short confirmation, 1 a token, and then the three formats.
-use Prim.Native.Nat.{ℕ}
+use Prim.Native.Nat.{ℕ, _<_}
+use mathlib.Core.Path.{_≡_}
 use lib.Dec.{eqb}
 use Rattle.octets.specs.Choice.{pick}
 use Rattle.fdl.specs.declared.telegram.Format.{Format}
@@ -17,3 +18,10 @@ kindOf n =
     pick (eqb n 0) kind.Confirmation
     (pick (eqb n 1) kind.Token
     (pick (eqb n 2) (kind.Telegram Sd1) (pick (eqb n 3) (kind.Telegram Sd2) (pick (eqb n 4) (kind.Telegram Sd3) kind.Unknown))))
+
+-- what a number is that names this kind
+abbrev pub Numbered : ℕ → Kind → Type 0
+Numbered n kind.Confirmation = n ≡ 0
+Numbered n kind.Token = n ≡ 1
+Numbered n (kind.Telegram f) = n ≡ formatNumber f
+Numbered n kind.Unknown = 4 < n

@@ -1,2 +1,4 @@
 pub mod Kinds
 pub mod Outcome
+pub mod Lemmas
+pub mod Laws

@@ -1,8 +1,4 @@
 -- `capi_telegram::header_of` meets its contract, by what `sap_of` ensures.
-use mathlib.Core.Path.{ap₂}
-use lib.ListN.{getD}
-use Rattle.fdl.specs.declared.telegram.Sap.{Sap}
-use Rattle.fdl.specs.declared.telegram.Header.{Header}
 use borrow.Author.Needs.{needs}
 use Rattle.capi_telegram.proofs.header_of.Statement.{statement}
 use Rattle.capi_telegram.proofs.header_of.Tie as tie
@@ -29,10 +25,7 @@ sap-of-requires-2 : tie.Need-sap-of-requires-2
 sap-of-requires-2 c κs = search needs
 
 returns : tie.Need-returns
-returns c =
-    let f = c .before .before .before .before .before .before .before .args .fields .now in
-    let given : Sap → Sap → Header = λ d e. record { da = getD f 1 0; sa = getD f 2 0; fc = getD f 3 0; dsap = d; ssap = e } in
-    ap₂ given (c .before .before .sap-of .ensures) (c .sap-of2 .ensures)
+returns c = simp (c .before .before .sap-of .ensures, c .sap-of2 .ensures)
 
 pub header-of-spec : {M : Type 1} → statement M
 header-of-spec =

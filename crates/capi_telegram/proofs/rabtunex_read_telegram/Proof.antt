@@ -1,13 +1,13 @@
 -- `capi_telegram::rabtunex_read_telegram` meets its contract: each kind of reading stores its fields, and none is larger than a byte.
 use mathlib.Core.Path.{_≡_, refl, sym, ap, _∙_}
-use mathlib.Core.List.{List, _∷_, []}
+use mathlib.Core.List.{List}
 use Prim.Native.Nat.{ℕ, _+_, _≤_}
 use native.Mathlib.Omega.{arith}
 use Rattle.function_code.specs.Code.{classOf}
 use Rattle.fdl.specs.Reading.{readOf}
 use Rattle.fdl.specs.Laws.{data-inside}
 use Rattle.fdl.specs.declared.reading.Reading.{Reading}
-use Rattle.capi_telegram.specs.Telegram.{refusalOf, fieldsAfter, sapNumber}
+use Rattle.capi_telegram.specs.Telegram.{refusalOf, telegramFields, fieldsAfter}
 use borrow.Author.Needs.{needs}
 use Rattle.capi_telegram.proofs.rabtunex_read_telegram.Statement.{statement}
 use Rattle.capi_telegram.proofs.rabtunex_read_telegram.Tie as tie
@@ -75,10 +75,9 @@ returns-3 c =
     let r = t .before .before in
     let a = r .before .before .args in
     let g = t .reading2 .given .0 in
-    let h = g .1 .0 in
     answered (a .bytes .now) (a .fields .now) _ (sym (r .read .ensures) ∙ t .reading2 .given .1)
     (c .put-fields .ensures
-    ∙ ap (λ (x : ℕ). x ∷ h .da ∷ h .sa ∷ h .fc ∷ sapNumber (h .dsap) ∷ sapNumber (h .ssap) ∷ g .1 .1 .0 ∷ g .1 .1 .1 .0 ∷ []) (n .format-number .ensures))
+    ∙ ap (λ (x : ℕ). telegramFields x (g .1 .0) (g .1 .1 .0) (g .1 .1 .1 .0)) (n .format-number .ensures))
 
 returns-4 : tie.Need-returns-4
 returns-4 c =
