@@ -6,8 +6,7 @@ use mathlib.Core.Bool.{Bool, true, false}
 use mathlib.Core.List.{List, [], _∷_}
 use lib.Dec.{eqb}
 use borrow.Author.Tests.{eqb-true}
-use Rattle.octets.specs.Choice.{by-pick}
-use Rattle.function_code.specs.Code.{oneOf}
+use Rattle.octets.specs.Choice.{oneOf, by-pick}
 use Rattle.fdl.specs.declared.telegram.Header.{Header}
 use Rattle.fdl.specs.declared.telegram.Sap.{Sap}
 use Rattle.fdl.specs.declared.telegram.Sap.the-variants.{Absent, Present}

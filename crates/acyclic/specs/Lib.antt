@@ -5,3 +5,4 @@ pub mod Calls
 pub mod Answers
 pub mod Lemmas
 pub mod Laws
+pub mod Refusals

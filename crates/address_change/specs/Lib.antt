@@ -1,3 +1,4 @@
 pub mod Address
 pub mod Lemmas
 pub mod Laws
+pub mod Refusals

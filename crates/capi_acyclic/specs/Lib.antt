@@ -3,3 +3,4 @@
 pub mod Acyclic
 pub mod Lemmas
 pub mod Laws
+pub mod Refusals

@@ -2,3 +2,4 @@
 -- nothing.
 pub mod Service
 pub mod Laws
+pub mod Refusals

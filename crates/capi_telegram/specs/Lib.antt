@@ -3,3 +3,4 @@
 pub mod Telegram
 pub mod Lemmas
 pub mod Laws
+pub mod Refusals

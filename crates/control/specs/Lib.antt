@@ -1,3 +1,4 @@
 pub mod Command
 pub mod Lemmas
 pub mod Laws
+pub mod Refusals

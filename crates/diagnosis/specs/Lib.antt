@@ -6,3 +6,4 @@ pub mod Writing
 pub mod Contents
 pub mod Lemmas
 pub mod Laws
+pub mod Refusals

@@ -5,3 +5,4 @@ pub mod Around
 pub mod Contents
 pub mod Lemmas
 pub mod Laws
+pub mod Refusals

@@ -2,17 +2,13 @@
 -- modulo 2.
 use Prim.Native.Nat.{ℕ, _/_, _%_}
 use mathlib.Core.Path.{_≡_}
-use mathlib.Core.Bool.{Bool, false}
+use mathlib.Core.Bool.{Bool}
 use mathlib.Core.List.{List, [], _∷_}
 use lib.Dec.{eqb}
 use lib.ListN.{getD}
-use Rattle.octets.specs.Choice.{pick, _and_, _or_}
+use Rattle.octets.specs.Choice.{pick, _and_, oneOf}
 use Rattle.function_code.specs.declared.code.Class.{Class}
 use Rattle.function_code.specs.declared.code.Class.the-variants.{Opening, Counted, Uncounted, Bare, Data, Reserved}
-
-abbrev pub oneOf : ℕ → List ℕ → Bool
-oneOf x [] = false
-oneOf x (y ∷ ys) = eqb x y or oneOf x ys
 
 -- a call, from its function and the bits FCV and FCB
 abbrev pub callOf : (function fcv fcb : ℕ) → Class

@@ -6,3 +6,4 @@ pub mod Number
 pub mod Front
 pub mod Part
 pub mod Fixed
+pub mod Refusals

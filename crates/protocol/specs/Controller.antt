@@ -25,8 +25,8 @@ use Rattle.service.specs.declared.reading.Reading as service-type
 use Rattle.service.specs.declared.reading.Reading.the-variants as service-reading
 use Rattle.book.specs.Contents.{Entry, templatesOf}
 use Rattle.book.specs.Reading as book-format
+use Rattle.book.specs.Refusals as book-refusals
 use Rattle.book.specs.declared.answers.Reading as book-type
-use Rattle.book.specs.declared.answers.Reading.the-variants as book-reading
 use Rattle.protocol.specs.Bits.{sameBit}
 use Rattle.protocol.specs.Line.{go, stop}
 use Rattle.protocol.specs.Line as line
@@ -191,8 +191,7 @@ settingsVerdict c =
 
 -- the book's own refusal
 abbrev pub bookVerdict : book-type.Reading → Verdict
-bookVerdict (book-reading.Book n) = fine
-bookVerdict (book-reading.Refused r) = fault (r .number)
+bookVerdict r = book-refusals.verdictIn r
 
 -- a state that no run leads to: at a template that the book has not, with more repeats or polls left than set, or with the
 -- wrong FCB where it is known. It is at the first template, and where a template has one poll; else either may be.

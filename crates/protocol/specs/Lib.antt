@@ -7,6 +7,7 @@ pub mod Line
 pub mod Controller
 pub mod Reply
 pub mod Download
+pub mod Refusals
 pub mod Words
 pub mod Endings
 pub mod Course

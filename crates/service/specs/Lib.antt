@@ -2,4 +2,5 @@ pub mod Reading
 pub mod Writing
 pub mod Lemmas
 pub mod Laws
+pub mod Refusals
 pub mod Worked

@@ -1,7 +1,6 @@
 -- `capi_acyclic::write_case` meets its contract, by what the writer of the case ensures.
 use mathlib.Core.Path.{refl}
-use mathlib.Core.List.{[]}
-use Rattle.octets.specs.Front.{refused}
+use Rattle.octets.specs.Front.{answerBy, heldBy}
 use borrow.Author.Needs.{needs}
 use Rattle.capi_acyclic.proofs.write_case.Statement.{statement}
 use Rattle.capi_acyclic.proofs.write_case.Tie as tie
@@ -46,9 +45,8 @@ returns-2 c =
     rw (w .before .before .before .case2 .given .1, ← (e .0)) (c .store-count2 .ensures .0, (e .1, c .store-count2 .ensures .1))
 
 returns-3 : tie.Need-returns-3
-returns-3 c =
-    let e = refused 28 [] (c .before .before .before .before .args .out .now) in
-    rw (c .enum-told .given .1, ← (e .0)) (refl, (e .1, refl))
+unfolding answerBy heldBy
+returns-3 c = rw (c .enum-told .given .1) (refl, (refl, refl))
 
 pub write-case-spec : {M : Type 1} → statement M
 write-case-spec =

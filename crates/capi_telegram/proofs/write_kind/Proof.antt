@@ -100,7 +100,7 @@ returns-5 c =
 returns-6 : tie.Need-returns-6
 returns-6 c =
     let a = c .before .before .before .before .args in
-    by-kind (a .fields .now) (a .user .now) (a .out .now) _ _ (c .enum-told3 .given .1) (refused 12 [] (a .out .now))
+    by-kind (a .fields .now) (a .user .now) (a .out .now) _ _ (c .enum-told3 .given .1) (refused _ [] (a .out .now))
 
 pub write-kind-spec : {M : Type 1} → statement M
 write-kind-spec =
