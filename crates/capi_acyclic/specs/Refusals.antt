@@ -38,7 +38,7 @@ read-dpv1-answer-status s = answer-by (readAnswerOf s) (acyclic.answer-numbered 
 
 -- ---- rabtunex_write_dpv1_call and rabtunex_write_dpv1_answer: whatever the fields name
 
-verdict-at : (k : Case) (part : List ℕ) → numbered (verdictAt k part) ≡ true
+pub verdict-at : (k : Case) (part : List ℕ) → numbered (verdictAt k part) ≡ true
 unfolding listed
 verdict-at (case.Call c) part = acyclic.call-verdict-numbered c (length part)
 verdict-at (case.Answer x) part = acyclic.answer-verdict-numbered x (length part)

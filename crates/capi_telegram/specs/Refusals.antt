@@ -31,7 +31,7 @@ read-telegram-status s = status-by (readOf s) (reading-numbered classOf s)
 
 -- ---- rabtunex_write_telegram
 
-verdict-at : (k : Kind) (fields user : List ℕ) → numbered (verdictAt k fields user) ≡ true
+pub verdict-at : (k : Kind) (fields user : List ℕ) → numbered (verdictAt k fields user) ≡ true
 unfolding listed
 verdict-at kind.Confirmation fields user = simp (through numbered, alike)
 verdict-at kind.Token fields user = simp (through numbered, alike, token-verdict-numbered)
