@@ -8,11 +8,12 @@ use Rattle.fdl.specs.Writing.{confirmationBytes}
 use Rattle.book.specs.Contents.{Entry}
 use Rattle.protocol.specs.Line.{Passage, through, requestLost, replyLost, requestDamaged, replyDamaged, Sending, passageOf, restOf}
 use Rattle.protocol.specs.Telegrams.{writeBytes, pollBytes, outcomeBytes}
-use Rattle.protocol.specs.Printer.{guarded, judge}
-use Rattle.protocol.specs.Words.{anyOf, arrives}
+use Rattle.protocol.specs.Words.{anyOf, arrives, guarded}
 use Rattle.protocol.specs.declared.controller.Settings.{Settings}
 use Rattle.protocol.specs.declared.controller.Ending.{Ending}
 use Rattle.protocol.specs.declared.controller.Ending.the-variants as ending
+use Rattle.protocol.specs.declared.printer.Outcome.{Outcome}
+use Rattle.protocol.specs.declared.printer.Outcome.the-variants as outcome
 
 -- ---- one request, sent until answered, R + 1 times at most
 
@@ -86,6 +87,10 @@ pub record Course : Type 0 where
 abbrev pub unless : Bool → Entry → List Entry
 unless b t = pick b [] (t ∷ [])
 
+-- the result of a template's write, by the guard: DF with B6, or 5F
+abbrev pub outcomeOf : (guard : Bool) → Entry → Outcome
+outcomeOf guard t = pick guard (outcome.Negative 0xB6 0) (outcome.Positive 1 (t .slot) (length (t .body)))
+
 -- an end at this template, whose requests are these
 abbrev pub endsWith : List (List Sending) → Ending → List Entry → Course
 endsWith rs e ts = record { requests = rs ∷ []; ending = e; stored = ts }
@@ -93,7 +98,7 @@ endsWith rs e ts = record { requests = rs ∷ []; ending = e; stored = ts }
 abbrev pub after : List (List Sending) → Entry → Course → Course
 after rs t x = record { requests = rs ∷ x .requests; ending = x .ending; stored = t ∷ x .stored }
 
--- by how the polls ended of template k, to which the printer's guard is on or off
+-- by how the polls ended of template k, whose slot is guarded or not
 abbrev pub afterPolls : (k : ℕ) → Entry → (guard : Bool) → List (List Sending) → Polled → (Bool → List Passage → Course) → Course
 afterPolls k t guard rs (ready b l) rest = pick guard (endsWith rs (ending.Refused k 0xB6 0) []) (after rs t (rest b l))
 afterPolls k t guard rs late rest = endsWith rs (ending.NotReady k) (unless guard t)
@@ -105,7 +110,7 @@ module _ (c : Settings) (boarding : Bool) (notYet : List ℕ) where
 
   -- the reply with the result of its write
   abbrev pub resultOf : Entry → List ℕ
-  resultOf t = outcomeBytes (c .controller) (c .printer) (judge boarding 1 (t .slot) (length (t .body)))
+  resultOf t = outcomeBytes (c .controller) (c .printer) (outcomeOf (guarded boarding (t .slot)) t)
 
   -- the templates from place i of the book on, counted from 0
   unfoldable pub course : (i : ℕ) (fcb : Bool) → List Entry → List Passage → Course

@@ -12,10 +12,10 @@ use Rattle.octets.specs.Front.{fine}
 use Rattle.book.specs.Contents.{Entry, InOrder}
 use Rattle.protocol.specs.Line.{Passage, Sending, stop, Damage}
 use Rattle.protocol.specs.Slots.{slotIn, filled}
-use Rattle.protocol.specs.Printer.{Station, guarded}
+use Rattle.protocol.specs.Printer.{Station}
 use Rattle.protocol.specs.Printer as printer-step
 use Rattle.protocol.specs.Download.{Given, Config, after, sendings, bound, download}
-use Rattle.protocol.specs.Words.{anyOf, countOf, heard, answered, failed, requestsIn, requestsAt, writesHeard, writeIn, pollsIn, gotConfirmation, gotNegative, FramingRefuses, UntilAnswered}
+use Rattle.protocol.specs.Words.{anyOf, countOf, heard, answered, failed, requestsIn, requestsAt, isOpening, writesHeard, writeIn, pollsIn, gotConfirmation, gotNegative, guarded, FramingRefuses, UntilAnswered}
 use Rattle.protocol.specs.Endings.{isDone, isNoOpening, isNoAnswer, isNotReady, isRefused, isStrange, stopsAt}
 use Rattle.protocol.specs.declared.controller.Ending.{Ending}
 
@@ -95,6 +95,9 @@ module _ (g : Given) (l : List Passage) (x : Station) where
     pub sent : final .sent ≡ length all
     pub entries-used : final .line ≡ drop (final .sent) l
     pub not-sooner : (m : ℕ) → m < final .sent → (e : Ending) → after g l x m .move ≡ stop e → ⊥
+    -- The opening, the first request, is sent once: it has one sending, and no other request is an opening.
+    pub opening-once : length (getD (requestsIn all) 0 []) ≡ 1
+    pub no-other-opening : anyOf isOpening (drop 1 (requestsIn all)) ≡ false
     -- After the opening each request is sent until answered, R + 1 times at most.
     pub until-answered : (n : ℕ) → n < length (drop 1 (requestsIn all)) → UntilAnswered here (g .settings .repeats) (getD (drop 1 (requestsIn all)) n [])
     -- After every number of sendings each write with a heard sending has added exactly one, from the opening's hearing on.
@@ -120,5 +123,5 @@ module _ (g : Given) (l : List Passage) (x : Station) where
     pub behind-old : (k : ℕ) → stopsAt k ending ≡ true → (i : ℕ) (t : Entry) → At (g .book) i t → k ≤ i → Old (t .slot)
     -- A slot that the book does not name is old, whatever the ending.
     pub others-old : (slot : ℕ) → ((i : ℕ) (t : Entry) → At (g .book) i t → t .slot ≡ slot → ⊥) → Old slot
-    -- Boarding stays as it was.
-    pub boarding : final .printer .printer .boarding ≡ x .printer .boarding
+    -- Boarding is as it was after every number of sendings.
+    pub boarding : (m : ℕ) → after g l x m .printer .printer .boarding ≡ x .printer .boarding

@@ -25,10 +25,11 @@ use Rattle.protocol.specs.Course.{Course, course}
 use Rattle.protocol.specs.Demand.{At, NotRefused, Demand3, final, all, New, Old, writeHeard}
 use Rattle.protocol.specs.Lemmas.Read.{opening-asked}
 use Rattle.protocol.specs.Lemmas.Replies.{Valid, valid}
-use Rattle.protocol.specs.Lemmas.Runs.{run-stop, transcript-add, transcript-stop, transcript-take, transcript-short, sent-counts, run-line, settles, damage-rest, asLost, damage-is-loss}
-use Rattle.protocol.specs.Lemmas.Groups.{concat, Apart, block-in, blocks-alone, templates-in, Each, each-at}
+use Rattle.protocol.specs.Lemmas.Runs.{run-stop, run-keeps, transcript-add, transcript-stop, transcript-take, transcript-short, sent-counts, run-line, settles, damage-rest, asLost, damage-is-loss}
+use Rattle.protocol.specs.Lemmas.Groups.{concat, Apart, block-in, blocks-alone, Templates, templates-in, no-openings, Each, each-at}
 use Rattle.protocol.specs.Lemmas.Chain.{apart-take, chain-ran, chain-sent, chain-counts}
 use Rattle.protocol.specs.Lemmas.Accepted.{usable, not-refused}
+use Rattle.protocol.specs.Lemmas.Hearing.{boarding-kept}
 use Rattle.protocol.specs.Lemmas.Ours.{ignores, next-new}
 use Rattle.protocol.specs.Lemmas.Follows.{Followed, fillAll, follows}
 use Rattle.protocol.specs.Lemmas.Means.{Says, says-none, ends-later, says, done-when, course-until}
@@ -104,6 +105,13 @@ module _ (g : Given) (l : List Passage) (x : Station) (ok : NotRefused g l x) wh
       let same : final g l x .sent ≡ after g l x m .sent = ap (λ (y : Config). y .sent) (settles (hears g) (steps g) m (bound g) (begin g l x) h (omega (arith, within-bound))) in
       omega (arith, sent-counts (hears g) (steps g) m (begin g l x), transcript-short (hears g) (steps g) m (begin g l x))
 
+  -- ---- boarding, whatever the ending
+
+  boarding-stays : (m : ℕ) → after g l x m .printer .printer .boarding ≡ x .printer .boarding
+  boarding-stays m =
+      run-keeps (hears g) (steps g) (λ (y : Station). y .printer .boarding) (λ y s. boarding-kept (g .diagnosis) (getD (g .notYet) (y .printer .writes) 0) s y) m
+      (begin g l x)
+
   -- ---- no opening
 
   module _ (u : Unopened g x (ok .printer) (ok .controller) diag l) where
@@ -156,6 +164,8 @@ module _ (g : Given) (l : List Passage) (x : Station) (ok : NotRefused g l x) wh
           sent = all-sent;
           entries-used = line-used;
           not-sooner = never-sooner;
+          opening-once = rw (closed-all, one-request);
+          no-other-opening = rw (closed-all, one-request);
           until-answered = λ n h. absurd (let z : length (drop 1 (requestsIn (all g l x))) ≡ 0 = rw (closed-all, one-request) in omega arith);
           once = closed-once;
           done = rw (closed-all, u .unanswered);
@@ -172,7 +182,7 @@ module _ (g : Given) (l : List Passage) (x : Station) (ok : NotRefused g l x) wh
           there-old = λ i t a h. absurd (never h);
           behind-old = λ k h. absurd (never h);
           others-old = λ s h. rw (closed-final, u .slots);
-          boarding = rw closed-final (u .boarding);
+          boarding = boarding-stays;
         }
 
   -- ---- the opening was answered
@@ -202,7 +212,7 @@ module _ (g : Given) (l : List Passage) (x : Station) (ok : NotRefused g l x) wh
     rest-damage : Damage FramingRefuses (restOf l)
     rest-damage = damage-rest FramingRefuses l (ok .damage)
 
-    followed : Followed g board opened (x .slots) ideal
+    followed : Followed g opened (x .slots) ideal
     followed =
         follows g board (ok .printer) (ok .controller) (g .book) 0 0 refl (ok .in-order) (omega (arith, ok .templates)) false true (g .settings .controller) 0 _
         (next-new g board true) (x .slots) (restOf l) rest-damage 1
@@ -253,10 +263,11 @@ module _ (g : Given) (l : List Passage) (x : Station) (ok : NotRefused g l x) wh
         ∙ opening-block (concat blocks) apart
         ∙ ap (λ (r : List (List Sending)). (firstSent answer ∷ []) ∷ r) (blocks-alone blocks (turns-blocks false blocks (course-turns (g .settings) board (g .notYet) 0 false (g .book) (restOf l))))
 
+    templates : Templates (ideal .requests)
+    templates = course-templates (g .settings) (ok .printer) (ok .controller) board (g .notYet) 0 0 false (g .book) (restOf l) (ok .in-order)
+
     templates-are : templatesIn (all g l x) ≡ ideal .requests
-    templates-are =
-        ap (λ (r : List (List Sending)). byTemplate (drop 1 r)) requests-are
-        ∙ templates-in (ideal .requests) (course-templates (g .settings) (ok .printer) (ok .controller) board (g .notYet) 0 0 false (g .book) (restOf l) (ok .in-order))
+    templates-are = ap (λ (r : List (List Sending)). byTemplate (drop 1 r)) requests-are ∙ templates-in (ideal .requests) templates
 
     requests-at : (i : ℕ) → requestsAt (all g l x) (suc i) ≡ getD (ideal .requests) i []
     requests-at i = ap (λ (r : List (List (List Sending))). getD r i []) templates-are
@@ -366,6 +377,8 @@ module _ (g : Given) (l : List Passage) (x : Station) (ok : NotRefused g l x) wh
           sent = all-sent;
           entries-used = line-used;
           not-sooner = never-sooner;
+          opening-once = rw requests-are;
+          no-other-opening = rw requests-are (no-openings (ideal .requests) templates);
           until-answered = λ n h.
               rw (requests-are, ours) (each-at (UntilAnswered (g .settings .printer) (g .settings .repeats)) blocks [] each-until n (rw requests-are at h));
           once = opened-once;
@@ -384,7 +397,7 @@ module _ (g : Given) (l : List Passage) (x : Station) (ok : NotRefused g l x) wh
           there-old = λ i u k h w. old z i u k (rw (requests-at i) at w);
           behind-old = λ n h i u k lt. behind z i u k (record { at = n; before = omega arith; there = h });
           others-old = λ s h. rw slots-are (unnamed here board (ideal .requests) 0 (g .book) (x .slots) s (ok .in-order) z h);
-          boarding = ap (λ (y : Config). y .printer .printer .boarding) final-is ∙ followed .guard;
+          boarding = boarding-stays;
         }
 
   -- The customer's third demand.

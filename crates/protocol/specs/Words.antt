@@ -56,6 +56,12 @@ heard a s = arrives (s .passage) and namesStation a (telegram.readOf (s .request
 unfoldable pub answered : (address : ℕ) → Sending → Bool
 answered a s = heard a s and accepted (telegram.readOf (s .reply))
 
+-- ---- a guarded slot
+
+-- "index 7 while boarding", and no other
+abbrev pub guarded : (boarding : Bool) (slot : ℕ) → Bool
+guarded boarding slot = boarding and eqb slot 7
+
 -- ---- a request: neighbouring sendings of the same bytes
 
 abbrev pub sameBytes : List ℕ → List ℕ → Bool
@@ -101,9 +107,23 @@ isWriteAsk poll = false
 isWriteAsk unknown = false
 isWriteAsk undecodable = false
 
+-- the opening asks for the diagnosis
+abbrev pub isOpeningAsk : Ask → Bool
+isOpeningAsk slaveDiag = true
+isOpeningAsk (write slot index body) = false
+isOpeningAsk poll = false
+isOpeningAsk unknown = false
+isOpeningAsk undecodable = false
+
+abbrev pub askedIn : List Sending → Ask
+askedIn [] = unknown
+askedIn (s ∷ r) = asked (s .request)
+
 abbrev pub isWrite : List Sending → Bool
-isWrite [] = false
-isWrite (s ∷ r) = isWriteAsk (asked (s .request))
+isWrite r = isWriteAsk (askedIn r)
+
+abbrev pub isOpening : List Sending → Bool
+isOpening r = isOpeningAsk (askedIn r)
 
 -- how many writes have a heard sending
 abbrev pub writesHeard : (address : ℕ) → List Sending → ℕ

@@ -13,8 +13,7 @@ use Rattle.book.specs.Contents.{Entry, InOrder}
 use Rattle.protocol.specs.Endings.{isDone, isNoOpening, isRefused, isStrange, stopsAt}
 use Rattle.protocol.specs.Line.{Passage, Sending}
 use Rattle.protocol.specs.Telegrams.{writeBytes}
-use Rattle.protocol.specs.Printer.{guarded}
-use Rattle.protocol.specs.Words.{anyOf, heard}
+use Rattle.protocol.specs.Words.{anyOf, heard, guarded}
 use Rattle.protocol.specs.Course.{meets, Course, course}
 use Rattle.protocol.specs.Demand.{At}
 use Rattle.protocol.specs.Lemmas.Read.{write-names}

@@ -17,11 +17,11 @@ use Rattle.book.specs.Contents.{Entry, InOrder}
 use Rattle.protocol.specs.Line.{Passage, through, requestLost, replyLost, requestDamaged, replyDamaged, Sending, passageOf, restOf, stop, Damage}
 use Rattle.protocol.specs.Slots.{Slots, written}
 use Rattle.protocol.specs.Telegrams.{writeBytes, pollBytes, outcomeBytes, answerOf}
-use Rattle.protocol.specs.Printer.{write, poll, counted, receivedOf, guarded, negative, judge, slotsAfter, Station}
+use Rattle.protocol.specs.Printer.{write, poll, counted, receivedOf, judge, slotsAfter, Station}
 use Rattle.protocol.specs.Controller.{Move, askFor, settled, afterPoll}
 use Rattle.protocol.specs.Download.{Given, Config}
-use Rattle.protocol.specs.Words.{arrives, asked, isWriteAsk, FramingRefuses}
-use Rattle.protocol.specs.Course.{isThrough, exchange, meets, leaves, oneArrives, Polled, ready, late, silent, polls, polled, Course, unless, endsWith, after, afterPolls, writeOf, resultOf, course}
+use Rattle.protocol.specs.Words.{arrives, asked, isWriteAsk, guarded, FramingRefuses}
+use Rattle.protocol.specs.Course.{isThrough, exchange, meets, leaves, oneArrives, Polled, ready, late, silent, polls, polled, Course, unless, outcomeOf, endsWith, after, afterPolls, writeOf, resultOf, course}
 use Rattle.protocol.specs.Lemmas.Read.{write-received, write-names, write-asked, poll-received, poll-names, poll-asked}
 use Rattle.protocol.specs.Lemmas.Replies.{gotOutcome, got-confirmation, got-outcome}
 use Rattle.protocol.specs.Lemmas.Runs.{at, damage-left}
@@ -73,10 +73,8 @@ module _ (g : Given) (boarding : Bool) (to : g .settings .printer ≤ 126) (from
     pub data PollsEnd : Polled → Config → Type 0 where
       came : (b : Bool) (h : ℕ) (u : List ℕ) (l : List Passage) (k : ℕ) → Damage FramingRefuses l
           → PollsEnd (ready (not b) l) (at l (stand g boarding b (g .settings .controller) h pending.Nothing n ss u) (afterOutcome (g .settings) i (t ∷ ts) b o) k)
-      gaveUp : (x : Station) (l : List Passage) (k : ℕ) → x .slots ≡ ss → x .printer .boarding ≡ boarding
-          → PollsEnd silent (at l x (stop (ending.NoAnswer (suc i))) k)
-      waited : (x : Station) (l : List Passage) (k : ℕ) → x .slots ≡ ss → x .printer .boarding ≡ boarding
-          → PollsEnd late (at l x (stop (ending.NotReady (suc i))) k)
+      gaveUp : (x : Station) (l : List Passage) (k : ℕ) → x .slots ≡ ss → PollsEnd silent (at l x (stop (ending.NoAnswer (suc i))) k)
+      waited : (x : Station) (l : List Passage) (k : ℕ) → x .slots ≡ ss → PollsEnd late (at l x (stop (ending.NotReady (suc i))) k)
 
     abbrev pub result : List ℕ
     result = outcomeBytes (g .settings .controller) (g .settings .printer) o
@@ -106,13 +104,13 @@ module _ (g : Given) (boarding : Bool) (to : g .settings .printer ≤ 126) (from
           (pick (meets (g .settings .repeats) l) m (stop (ending.NoAnswer (suc i)))) (k + length (sent r l))
 
       -- one that fails
-      failed : (r : List ℕ) (x′ x : Station) (l : List Passage) (k : ℕ) → x′ .slots ≡ ss → x .slots ≡ ss → x′ .printer .boarding ≡ boarding → x .printer .boarding ≡ boarding
+      failed : (r : List ℕ) (x′ x : Station) (l : List Passage) (k : ℕ) → x′ .slots ≡ ss → x .slots ≡ ss
           → PollsEnd silent (at (leaves (g .settings .repeats) l) (pick (oneArrives (sent r l)) x′ x) (stop (ending.NoAnswer (suc i))) (k + length (sent r l)))
-      failed r x′ x l k e e′ f f′ = by (oneArrives (sent r l))
+      failed r x′ x l k e e′ = by (oneArrives (sent r l))
         where
           by : (m : Bool) → PollsEnd silent (at (leaves (g .settings .repeats) l) (pick m x′ x) (stop (ending.NoAnswer (suc i))) (k + length (sent r l)))
-          by true = gaveUp x′ _ _ e f
-          by false = gaveUp x _ _ e′ f′
+          by true = gaveUp x′ _ _ e
+          by false = gaveUp x _ _ e′
 
       module _ (f : Bool) (s h : ℕ) (u : List ℕ) (new : New g boarding b f s) (l : List Passage) (d : Damage FramingRefuses l) (k : ℕ) where
         abbrev got : Station
@@ -136,7 +134,7 @@ module _ (g : Given) (boarding : Bool) (to : g .settings .printer ≤ 126) (from
                 (pick m (afterOutcome (g .settings) i (t ∷ ts) b o) (stop (ending.NoAnswer (suc i)))) (k + length (sent result l)))
             by true e = rw (answered-arrived (g .settings .repeats) (pollBytes (g .settings .printer) (g .settings .controller) b) result l e)
                 (came b (length result) (over result u) (leaves (g .settings .repeats) l) (k + length (sent result l)) (damage-left FramingRefuses (g .settings .repeats) l d))
-            by false e = failed result got (stand g boarding f s h (pending.Result o zero) n ss u) l k refl refl refl refl
+            by false e = failed result got (stand g boarding f s h (pending.Result o zero) n ss u) l k refl refl
 
         module _ (wait : ℕ) where
           abbrev held : Station
@@ -159,8 +157,8 @@ module _ (g : Given) (boarding : Bool) (to : g .settings .printer ≤ 126) (from
                   (at (leaves (g .settings .repeats) l) (pick (oneArrives (sent confirmationBytes l)) held (stand g boarding f s h (pending.Result o (suc wait)) n ss u))
                   (pick m (stop (ending.NotReady (suc i))) (stop (ending.NoAnswer (suc i)))) (k + length (sent confirmationBytes l)))
               by true e = rw (answered-arrived (g .settings .repeats) (pollBytes (g .settings .printer) (g .settings .controller) b) confirmationBytes l e)
-                  (waited held (leaves (g .settings .repeats) l) (k + length (sent confirmationBytes l)) refl refl)
-              by false e = failed confirmationBytes held (stand g boarding f s h (pending.Result o (suc wait)) n ss u) l k refl refl refl refl
+                  (waited held (leaves (g .settings .repeats) l) (k + length (sent confirmationBytes l)) refl)
+              by false e = failed confirmationBytes held (stand g boarding f s h (pending.Result o (suc wait)) n ss u) l k refl refl
 
           -- and where another may
           module _ (left : ℕ) where
@@ -192,7 +190,7 @@ module _ (g : Given) (boarding : Bool) (to : g .settings .printer ≤ 126) (from
                       last = at (leaves (g .settings .repeats) l) (pick (oneArrives (sent confirmationBytes l)) held (stand g boarding f s h (pending.Result o (suc wait)) n ss u))
                           (stop (ending.NoAnswer (suc i))) (k + length (sent confirmationBytes l));
                       chain = rw e (link (rw e at first) end);
-                      how = rw e (failed confirmationBytes held (stand g boarding f s h (pending.Result o (suc wait)) n ss u) l k refl refl refl refl);
+                      how = rw e (failed confirmationBytes held (stand g boarding f s h (pending.Result o (suc wait)) n ss u) l k refl refl);
                     }
 
     pub follow-polls : (left wait : ℕ) (b f : Bool) (s h : ℕ) (u : List ℕ) → New g boarding b f s → (l : List Passage) → Damage FramingRefuses l → (k : ℕ)
@@ -211,31 +209,26 @@ abbrev pub fillAll : List Entry → Slots → Slots
 fillAll [] s = s
 fillAll (t ∷ ts) s = fillAll ts (written (t .slot) (t .body) s)
 
-module _ (boarding : Bool) (t : Entry) (slot : t .slot ≤ 15) (short : length (t .body) ≤ 200) where
-  -- the result of our write
-  abbrev pub verdict : Bool → Outcome
-  verdict guard = pick guard (negative 0xB6) (outcome.Positive 1 (t .slot) (length (t .body)))
+-- The printer's result of our write is the course's: it guards slot seven while boarding, and no other.
+judged : (boarding : Bool) (t : Entry) → t .slot ≤ 15 → length (t .body) ≤ 200 → judge boarding 1 (t .slot) (length (t .body)) ≡ outcomeOf (guarded boarding (t .slot)) t
+unfolding judge
+judged boarding t slot short = simp (le-ltb 15 (t .slot) slot, le-ltb 200 (length (t .body)) short)
 
-  pub judged : judge boarding 1 (t .slot) (length (t .body)) ≡ verdict (guarded boarding (t .slot))
-  unfolding judge
-  judged = simp (le-ltb 15 (t .slot) slot, le-ltb 200 (length (t .body)) short)
+pub outcome-taken : (t : Entry) → length (t .body) ≤ 200 → (guard : Bool) → answers.verdictOf (answerOf (outcomeOf guard t)) 0 ≡ fine
+unfolding negativeOf goodCode1 namedIn rangedOf
+outcome-taken t short true = refl
+outcome-taken t short false = simp (le-ltb 240 (length (t .body)) (omega arith))
 
-  pub verdict-fine : (guard : Bool) → answers.verdictOf (answerOf (verdict guard)) 0 ≡ fine
-  unfolding negativeOf goodCode1 namedIn rangedOf
-  verdict-fine true = refl
-  verdict-fine false = simp (le-ltb 240 (length (t .body)) (omega arith))
-
-  slots-by : (guard : Bool) (ss : Slots) → slotsAfter (verdict guard) (t .slot) (t .body) ss ≡ fillAll (unless guard t) ss
-  slots-by true ss = refl
-  slots-by false ss = refl
+slots-by : (t : Entry) (guard : Bool) (ss : Slots) → slotsAfter (outcomeOf guard t) (t .slot) (t .body) ss ≡ fillAll (unless guard t) ss
+slots-by t true ss = refl
+slots-by t false ss = refl
 
 -- a run from x that follows the course y
-pub record Followed (g : Given) (boarding : Bool) (x : Config) (ss : Slots) (y : Course) : Type 0 where
+pub record Followed (g : Given) (x : Config) (ss : Slots) (y : Course) : Type 0 where
   pub last : Config
   pub chain : Chain g (g .settings .printer) x (concat (y .requests)) last
   pub stops : last .move ≡ stop (y .ending)
   pub slots : last .printer .slots ≡ fillAll (y .stored) ss
-  pub guard : last .printer .printer .boarding ≡ boarding
 
 module _ (g : Given) (boarding : Bool) (to : g .settings .printer ≤ 126) (from : g .settings .controller ≤ 126) where
   abbrev starts : (i : ℕ) (b f : Bool) (s h : ℕ) (u : List ℕ) (ss : Slots) → List Entry → List Passage → ℕ → Config
@@ -248,11 +241,11 @@ module _ (g : Given) (boarding : Bool) (to : g .settings .printer ≤ 126) (from
   -- one template, where the rest of the book is followed
   module _ (i : ℕ) (t : Entry) (ts : List Entry) (there : drop i (g .book) ≡ t ∷ ts) (small : i < 16) (slot : t .slot ≤ 15) (some : 1 ≤ length (t .body))
       (short : length (t .body) ≤ 200) (b f : Bool) (s h : ℕ) (u : List ℕ) (new : New g boarding b f s) (ss : Slots) (l : List Passage) (d : Damage FramingRefuses l) (k : ℕ) where
-    abbrev o : Outcome
-    o = judge boarding 1 (t .slot) (length (t .body))
-
     abbrev guard : Bool
     guard = guarded boarding (t .slot)
+
+    abbrev o : Outcome
+    o = outcomeOf guard t
 
     abbrev sentWrite : List Sending
     sentWrite = writeOf (g .settings) boarding (g .notYet) b t l
@@ -276,43 +269,43 @@ module _ (g : Given) (boarding : Bool) (to : g .settings .printer ≤ 126) (from
     capped = omega arith
 
     slots-are : stored ≡ fillAll (unless guard t) ss
-    slots-are = rw (judged boarding t slot short) (slots-by boarding t slot short guard ss)
+    slots-are = slots-by t guard ss
 
     written-link : Link g (g .settings .printer) (starts i b f s h u ss (t ∷ ts) l k) sentWrite
         (at rest (pick (oneArrives sentWrite) performed before) (pick (meets (g .settings .repeats) l) polling (stop (ending.NoAnswer (suc i)))) (k + length sentWrite))
     written-link =
-        asked-for g boarding i t ts there job.Write b (write 1 (t .slot) (t .body))
+        rw (judged boarding t slot short) at (asked-for g boarding i t ts there job.Write b (write 1 (t .slot) (t .body))
         (write-received (g .settings .printer) (g .settings .controller) to from (g .settings .printer) b (t .slot) (t .body) some short
         ∙ rw (eq-eqb (g .settings .printer) (g .settings .printer) refl))
         f s h pending.Nothing i ss u new
         (write-names (g .settings .printer) (g .settings .controller) to from b (t .slot) (t .body) some short)
         (rw (capped, write-asked (g .settings .printer) (g .settings .controller) to from b (t .slot) (t .body) some short) (omega arith))
-        polling (λ r. rw (got-confirmation (g .settings))) l d k
+        polling (λ r. rw (got-confirmation (g .settings))) l d k)
 
     abbrev start : Config
     start = starts i b f s h u ss (t ∷ ts) l k
 
     unanswered : Link g (g .settings .printer) start sentWrite (at rest (pick (oneArrives sentWrite) performed before) (stop (ending.NoAnswer (suc i))) (k + length sentWrite))
-        → Followed g boarding start ss (endsWith (sentWrite ∷ []) (ending.NoAnswer (suc i)) (pick (oneArrives sentWrite) (unless guard t) []))
+        → Followed g start ss (endsWith (sentWrite ∷ []) (ending.NoAnswer (suc i)) (pick (oneArrives sentWrite) (unless guard t) []))
     unanswered w = by (oneArrives sentWrite) w
       where
         by : (m : Bool) → Link g (g .settings .printer) start sentWrite (at rest (pick m performed before) (stop (ending.NoAnswer (suc i))) (k + length sentWrite))
-            → Followed g boarding start ss (endsWith (sentWrite ∷ []) (ending.NoAnswer (suc i)) (pick m (unless guard t) []))
-        by true w = record { last = _; chain = link w end; stops = refl; slots = slots-are; guard = refl }
-        by false w = record { last = _; chain = link w end; stops = refl; slots = refl; guard = refl }
+            → Followed g start ss (endsWith (sentWrite ∷ []) (ending.NoAnswer (suc i)) (pick m (unless guard t) []))
+        by true w = record { last = _; chain = link w end; stops = refl; slots = slots-are }
+        by false w = record { last = _; chain = link w end; stops = refl; slots = refl }
 
     abbrev sentPolls : List (List Sending)
     sentPolls = polls (g .settings) (resultOf (g .settings) boarding (g .notYet) t) (g .settings .polls - 1) (getD (g .notYet) i 0) (not b) rest
 
     good : answers.verdictOf (answerOf o) 0 ≡ fine
-    good = rw (judged boarding t slot short) (verdict-fine boarding t slot short guard)
+    good = outcome-taken t short guard
 
     abbrev tookAs : Bool → Outcome → Move
     tookAs = afterOutcome (g .settings) i (t ∷ ts)
 
     -- what follows where the write and the polls went well
     module _ (onward : (b′ : Bool) (h′ : ℕ) (u′ : List ℕ) (l′ : List Passage) (k′ : ℕ) → Damage FramingRefuses l′
-        → Followed g boarding (starts (suc i) (not b′) b′ (g .settings .controller) h′ u′ (written (t .slot) (t .body) ss) ts l′ k′) (written (t .slot) (t .body) ss) (courseOf (suc i) (not b′) ts l′)) where
+        → Followed g (starts (suc i) (not b′) b′ (g .settings .controller) h′ u′ (written (t .slot) (t .body) ss) ts l′ k′) (written (t .slot) (t .body) ss) (courseOf (suc i) (not b′) ts l′)) where
       abbrev courseBy : Polled → Course
       courseBy p = afterPolls (suc i) t guard (sentWrite ∷ sentPolls) p (λ b′ l′. courseOf (suc i) b′ ts l′)
 
@@ -326,18 +319,17 @@ module _ (g : Given) (boarding : Bool) (to : g .settings .printer ≤ 126) (from
       settles : (m : Bool) → guard ≡ m → (b′ : Bool) (h′ : ℕ) (u′ : List ℕ) (l′ : List Passage) (k′ : ℕ) → Damage FramingRefuses l′
           → Chain g (g .settings .printer) start (sentWrite ∷ sentPolls)
           (at l′ (stand g boarding b′ (g .settings .controller) h′ pending.Nothing (min 255 (suc i)) stored u′) (tookAs b′ o) k′)
-          → Followed g boarding start ss (pick m (endsWith (sentWrite ∷ sentPolls) (ending.Refused (suc i) 0xB6 0) []) (after (sentWrite ∷ sentPolls) t (courseOf (suc i) (not b′) ts l′)))
+          → Followed g start ss (pick m (endsWith (sentWrite ∷ sentPolls) (ending.Refused (suc i) 0xB6 0) []) (after (sentWrite ∷ sentPolls) t (courseOf (suc i) (not b′) ts l′)))
       settles true e b′ h′ u′ l′ k′ d′ c =
-          let is : o ≡ negative 0xB6 = judged boarding t slot short ∙ ap (verdict boarding t slot short) e in
+          let is : o ≡ outcome.Negative 0xB6 0 = rw e in
           record {
             last = at l′ (stand g boarding b′ (g .settings .controller) h′ pending.Nothing (min 255 (suc i)) stored u′) (tookAs b′ o) k′;
             chain = alone c;
             stops = rw is;
             slots = slots-are ∙ rw e;
-            guard = refl;
           }
       settles false e b′ h′ u′ l′ k′ d′ c =
-          let is : o ≡ outcome.Positive 1 (t .slot) (length (t .body)) = judged boarding t slot short ∙ ap (verdict boarding t slot short) e in
+          let is : o ≡ outcome.Positive 1 (t .slot) (length (t .body)) = rw e in
           let now : stored ≡ written (t .slot) (t .body) ss = slots-are ∙ rw e in
           let then = onward b′ h′ u′ l′ k′ d′ in
           let next : Config = starts (suc i) (not b′) b′ (g .settings .controller) h′ u′ (written (t .slot) (t .body) ss) ts l′ k′ in
@@ -349,21 +341,20 @@ module _ (g : Given) (boarding : Bool) (to : g .settings .printer ≤ 126) (from
             chain = chain-append g (g .settings .printer) went (then .chain);
             stops = then .stops;
             slots = then .slots;
-            guard = then .guard;
           }
 
       -- by how the polls ended
-      by-end : (p : Polled) (z : Config) → End p z → Chain g (g .settings .printer) start (sentWrite ∷ sentPolls) z → Followed g boarding start ss (courseBy p)
+      by-end : (p : Polled) (z : Config) → End p z → Chain g (g .settings .printer) start (sentWrite ∷ sentPolls) z → Followed g start ss (courseBy p)
       by-end _ _ (came b′ h′ u′ l′ k′ d′) c = settles guard refl b′ h′ u′ l′ k′ d′ c
-      by-end _ _ (gaveUp x l′ k′ e f′) c = record { last = _; chain = alone c; stops = refl; slots = e ∙ slots-are; guard = f′ }
-      by-end _ _ (waited x l′ k′ e f′) c = record { last = _; chain = alone c; stops = refl; slots = e ∙ slots-are; guard = f′ }
+      by-end _ _ (gaveUp x l′ k′ e) c = record { last = _; chain = alone c; stops = refl; slots = e ∙ slots-are }
+      by-end _ _ (waited x l′ k′ e) c = record { last = _; chain = alone c; stops = refl; slots = e ∙ slots-are }
 
-      template-followed : Followed g boarding start ss (courseOf i b (t ∷ ts) l)
+      template-followed : Followed g start ss (courseOf i b (t ∷ ts) l)
       unfolding course
       template-followed = by (meets (g .settings .repeats) l) refl
         where
           by : (m : Bool) → meets (g .settings .repeats) l ≡ m
-              → Followed g boarding start ss (pick m (courseBy (polled (g .settings) (g .settings .polls - 1) (getD (g .notYet) i 0) (not b) rest))
+              → Followed g start ss (pick m (courseBy (polled (g .settings) (g .settings .polls - 1) (getD (g .notYet) i 0) (not b) rest))
               (endsWith (sentWrite ∷ []) (ending.NoAnswer (suc i)) (pick (oneArrives sentWrite) (unless guard t) [])))
           by false e = unanswered (rw e at written-link)
           by true e =
@@ -381,9 +372,9 @@ module _ (g : Given) (boarding : Bool) (to : g .settings .printer ≤ 126) (from
 
   -- The run from template suc i on, where its write is new to the printer, follows the course.
   pub follows : (ts : List Entry) (i m : ℕ) → drop i (g .book) ≡ ts → InOrder m ts → i + length ts ≤ 16 → (b f : Bool) (s h : ℕ) (u : List ℕ) → New g boarding b f s
-      → (ss : Slots) (l : List Passage) → Damage FramingRefuses l → (k : ℕ) → Followed g boarding (starts i b f s h u ss ts l k) ss (courseOf i b ts l)
+      → (ss : Slots) (l : List Passage) → Damage FramingRefuses l → (k : ℕ) → Followed g (starts i b f s h u ss ts l k) ss (courseOf i b ts l)
   unfolding course
-  follows [] i m there order small b f s h u new ss l d k = record { last = _; chain = end; stops = refl; slots = refl; guard = refl }
+  follows [] i m there order small b f s h u new ss l d k = record { last = _; chain = end; stops = refl; slots = refl }
   follows (t ∷ ts) i m there order small b f s h u new ss l d k =
       template-followed i t ts there (omega arith) (order .1) (order .2) (order .3) b f s h u new ss l d k
       (λ b′ h′ u′ l′ k′ d′.

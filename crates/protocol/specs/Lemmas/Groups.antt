@@ -6,10 +6,11 @@ use mathlib.Core.Bool.{Bool, true, false}
 use mathlib.Core.List.{List, [], _∷_, _++_, append-nil, append-assoc}
 use mathlib.Core.Path.{_≡_, refl, sym, ap, _∙_}
 use lib.ListN.{length, getD, take}
-use Rattle.octets.specs.Choice.{_or_, by-pick}
+use Rattle.octets.specs.Choice.{_or_, by-pick, never}
 use Rattle.protocol.specs.Line.{Passage, Sending, passageOf, restOf}
+use Rattle.protocol.specs.Printer.{Ask, slaveDiag, write, poll, unknown, undecodable}
 use Rattle.protocol.specs.Course.{isThrough, exchange}
-use Rattle.protocol.specs.Words.{anyOf, sameBytes, joined, requestsIn, isWrite, firstIsWrite, byTemplate}
+use Rattle.protocol.specs.Words.{anyOf, sameBytes, joined, requestsIn, isWriteAsk, isOpeningAsk, askedIn, isWrite, isOpening, firstIsWrite, byTemplate}
 
 -- ---- tests over two lists in a row
 
@@ -124,14 +125,14 @@ blocks-alone rs h = ap requestsIn (sym (append-nil (concat rs))) ∙ blocks-in r
 
 -- ---- many templates
 
-abbrev pub NoWrites : List (List Sending) → Type 0
-NoWrites [] = Unit {0}
-NoWrites (p ∷ ps) = (isWrite p ≡ false) × NoWrites ps
+abbrev pub Polls : List (List Sending) → Type 0
+Polls [] = Unit {0}
+Polls (p ∷ ps) = (askedIn p ≡ poll) × Polls ps
 
--- a write and then no further one
+-- a write and then polls
 abbrev pub Template : List (List Sending) → Type 0
 Template [] = ⊥
-Template (w ∷ ps) = (isWrite w ≡ true) × NoWrites ps
+Template (w ∷ ps) = (isWrite w ≡ true) × Polls ps
 
 abbrev pub Templates : List (List (List Sending)) → Type 0
 Templates [] = Unit {0}
@@ -142,7 +143,7 @@ first-written [] h = refl
 first-written ([] ∷ gs) h = absurd (h .0)
 first-written ((w ∷ ps) ∷ gs) h = h .0 .0
 
-template-in : (r : List Sending) (ps rest : List (List Sending)) → NoWrites ps → firstIsWrite rest ≡ true
+template-in : (r : List Sending) (ps rest : List (List Sending)) → Polls ps → firstIsWrite rest ≡ true
     → byTemplate (r ∷ (ps ++ rest)) ≡ (r ∷ ps) ∷ byTemplate rest
 unfolding byTemplate
 template-in r [] rest h e = rw e
@@ -154,3 +155,22 @@ templates-in [] h = refl
 templates-in ([] ∷ gs) h = absurd (h .0)
 templates-in ((w ∷ ps) ∷ gs) h =
     template-in w ps (concat gs) (h .0 .1) (first-written gs (h .1)) ∙ ap (λ l. (w ∷ ps) ∷ l) (templates-in gs (h .1))
+
+-- none of them is an opening
+writes-apart : (a : Ask) → isWriteAsk a ≡ true → isOpeningAsk a ≡ false
+writes-apart slaveDiag e = absurd (never e)
+writes-apart (write slot index body) e = refl
+writes-apart poll e = refl
+writes-apart unknown e = refl
+writes-apart undecodable e = refl
+
+polls-apart : (ps : List (List Sending)) → Polls ps → anyOf isOpening ps ≡ false
+polls-apart [] h = refl
+polls-apart (p ∷ ps) h = rw (h .0) (polls-apart ps (h .1))
+
+pub no-openings : (gs : List (List (List Sending))) → Templates gs → anyOf isOpening (concat gs) ≡ false
+no-openings [] h = refl
+no-openings ([] ∷ gs) h = absurd (h .0)
+no-openings ((w ∷ ps) ∷ gs) h =
+    any-append isOpening (w ∷ ps) (concat gs)
+    ∙ rw (writes-apart (askedIn w) (h .0 .0), polls-apart ps (h .0 .1)) (no-openings gs (h .1))

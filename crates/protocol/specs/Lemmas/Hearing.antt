@@ -1,4 +1,5 @@
--- What the printer does with bytes that are no call, with a counted call that is new to it, and with the same call once more.
+-- What the printer does with bytes that are no call, with a counted call that is new to it, and with the same call once more;
+-- and what stays whatever it hears.
 use Prim.Native.Nat.{ℕ}
 use mathlib.Core.Path.{_≡_, refl}
 use mathlib.Core.Bool.{Bool, true, false, not}
@@ -6,13 +7,14 @@ use mathlib.Core.List.{List}
 use lib.ListN.{length, getD, take, drop}
 use lib.Seq.{take-append-seam}
 use borrow.Author.Tests.{eq-eqb}
+use Rattle.octets.specs.Choice.{by-pick}
 use Rattle.octets.specs.Front.{over}
 use Rattle.function_code.specs.Code.{classOf}
 use Rattle.fdl.specs.Reading as telegram
 use Rattle.fdl.specs.declared.reading.Reading as telegram-type
 use Rattle.fdl.specs.declared.reading.Reading.the-variants as telegram-reading
 use Rattle.protocol.specs.Bits.{sameBit}
-use Rattle.protocol.specs.Printer.{Ask, nothing, counted, isCall, receivedBy, receivedOf, Deed, perform, Station, isRepeat, replyBytes, newCall, hear}
+use Rattle.protocol.specs.Printer.{Ask, Received, nothing, elsewhere, status, uncounted, opening, counted, isCall, receivedBy, receivedOf, Deed, perform, Station, Heard, isRepeat, replyBytes, newCall, heardBy, hear}
 use Rattle.protocol.specs.Download.{Given, hears}
 
 -- ---- what is no call
@@ -34,6 +36,24 @@ pub not-a-call : (diag : List ℕ) (notYet : ℕ) (s : List ℕ) (x : Station) �
     → hear diag notYet s x ≡ record { station = x; reply = 0 }
 unfolding hear receivedOf
 not-a-call diag notYet s x e = rw (no-call (x .printer .address) s (telegram.readOf s) e)
+
+-- ---- what stays
+
+by-received : (diag : List ℕ) (notYet : ℕ) (r : Received) (x : Station) → heardBy diag notYet r x .station .printer .boarding ≡ x .printer .boarding
+by-received diag notYet nothing x = refl
+by-received diag notYet elsewhere x = refl
+by-received diag notYet (status sa) x = refl
+by-received diag notYet uncounted x = refl
+by-received diag notYet (opening sa ask) x = refl
+by-received diag notYet (counted fcb sa ask) x =
+    by-pick (λ (h : Heard). h .station .printer .boarding ≡ x .printer .boarding) (isRepeat (x .printer) fcb sa) (λ _. refl) (λ _. refl)
+
+-- Whatever the printer hears, its boarding state stays.
+pub boarding-kept : (diag : List ℕ) (notYet : ℕ) (s : List ℕ) (x : Station) → hear diag notYet s x .station .printer .boarding ≡ x .printer .boarding
+unfolding hear
+boarding-kept diag notYet s x = by-received diag notYet (receivedOf (x .printer .address) s) x
+
+-- ---- what a counted call does
 
 -- a reply that was stored is what is sent
 pub stored-sent : (r buffer : List ℕ) → take (length r) (over r buffer) ≡ r

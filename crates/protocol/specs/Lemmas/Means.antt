@@ -8,7 +8,7 @@ use mathlib.Core.List.{List, [], _∷_, _++_}
 use lib.Dec.{eqb}
 use lib.ListN.{length, getD}
 use borrow.Author.Tests.{eq-eqb, ne-eqb, lt-ltb, le-ltb}
-use Rattle.octets.specs.Choice.{pick, _and_}
+use Rattle.octets.specs.Choice.{pick, _and_, _or_}
 use Rattle.octets.specs.Front.{fine}
 use Rattle.fdl.specs.Contents.{accepted}
 use Rattle.fdl.specs.Reading as telegram
@@ -21,14 +21,13 @@ use Rattle.book.specs.Contents.{Entry, InOrder}
 use Rattle.protocol.specs.Endings.{isDone, isNoAnswer, isNotReady, isRefused, stopsAt}
 use Rattle.protocol.specs.Line.{Passage, Sending, Damage}
 use Rattle.protocol.specs.Telegrams.{writeBytes, answerOf, replyCode}
-use Rattle.protocol.specs.Printer.{guarded, judge}
 use Rattle.protocol.specs.Controller.{gotIn}
-use Rattle.protocol.specs.Words.{anyOf, countOf, failed, pollsIn, isConfirmation, isNegative, gotConfirmation, gotNegative, FramingRefuses, UntilAnswered}
-use Rattle.protocol.specs.Course.{meets, leaves, oneArrives, Polled, ready, late, silent, polls, polled, Course, unless, endsWith, after, afterPolls, writeOf, resultOf, course}
+use Rattle.protocol.specs.Words.{anyOf, countOf, failed, pollsIn, isConfirmation, isNegative, gotConfirmation, gotNegative, guarded, FramingRefuses, UntilAnswered}
+use Rattle.protocol.specs.Course.{meets, leaves, oneArrives, Polled, ready, late, silent, polls, polled, Course, unless, outcomeOf, endsWith, after, afterPolls, writeOf, resultOf, course}
 use Rattle.protocol.specs.Demand.{allReady}
 use Rattle.protocol.specs.Lemmas.Runs.{damage-left}
 use Rattle.protocol.specs.Lemmas.Groups.{concat, any-append, Each, each-append}
-use Rattle.protocol.specs.Lemmas.Follows.{verdict, judged, verdict-fine}
+use Rattle.protocol.specs.Lemmas.Follows.{outcome-taken}
 use Rattle.protocol.specs.Lemmas.Read.{write-names, outcome-fine, telegram-read}
 use Rattle.protocol.specs.Lemmas.Replies.{gotOutcome, got-outcome}
 use Rattle.protocol.specs.Lemmas.Meets.{isSilent, isReady, Confirmed, failed-unmet, polls-failed, polls-negative, polls-confirmed, until-answered, polls-until}
@@ -158,16 +157,16 @@ module _ (c : Settings) (boarding : Bool) (notYet : List ℕ) (to : c .printer �
 
   module _ (t : Entry) (slot : t .slot ≤ 15) (body : 1 ≤ length (t .body)) (short : length (t .body) ≤ 200) where
     abbrev o : Outcome
-    o = judge boarding 1 (t .slot) (length (t .body))
+    o = outcomeOf (guarded boarding (t .slot)) t
 
     abbrev result : List ℕ
     result = resultOf c boarding notYet t
 
     fine-o : answers.verdictOf (answerOf o) 0 ≡ fine
-    fine-o = rw (judged boarding t slot short) (verdict-fine boarding t slot short (guarded boarding (t .slot)))
+    fine-o = outcome-taken t short (guarded boarding (t .slot))
 
-    result-got : gotIn c result ≡ gotOutcome (verdict boarding t slot short (guarded boarding (t .slot)))
-    result-got = got-outcome c to from o fine-o ∙ ap gotOutcome (judged boarding t slot short)
+    result-got : gotIn c result ≡ gotOutcome o
+    result-got = got-outcome c to from o fine-o
 
     result-taken : accepted (telegram.readOf result) ≡ true
     result-taken =
@@ -176,15 +175,15 @@ module _ (c : Settings) (boarding : Bool) (notYet : List ℕ) (to : c .printer �
     result-final : isConfirmation (gotIn c result) ≡ false
     result-final = ap isConfirmation result-got ∙ by (guarded boarding (t .slot))
       where
-        by : (g : Bool) → isConfirmation (gotOutcome (verdict boarding t slot short g)) ≡ false
+        by : (g : Bool) → isConfirmation (gotOutcome (outcomeOf g t)) ≡ false
         by true = refl
         by false = refl
 
     result-negative : (code1 code2 : ℕ) (g : Bool) → guarded boarding (t .slot) ≡ g → isNegative code1 code2 (gotIn c result) ≡ (g and eqb code1 0xB6 and eqb code2 0)
     result-negative code1 code2 g e =
-        ap (isNegative code1 code2) result-got ∙ ap (λ (x : Bool). isNegative code1 code2 (gotOutcome (verdict boarding t slot short x))) e ∙ by g
+        ap (isNegative code1 code2) result-got ∙ ap (λ (x : Bool). isNegative code1 code2 (gotOutcome (outcomeOf x t))) e ∙ by g
       where
-        by : (x : Bool) → isNegative code1 code2 (gotOutcome (verdict boarding t slot short x)) ≡ (x and eqb code1 0xB6 and eqb code2 0)
+        by : (x : Bool) → isNegative code1 code2 (gotOutcome (outcomeOf x t)) ≡ (x and eqb code1 0xB6 and eqb code2 0)
         by true = refl
         by false = refl
 
@@ -326,10 +325,10 @@ module _ (c : Settings) (boarding : Bool) (notYet : List ℕ) (to : c .printer �
   unready-off true y = refl
   unready-off false y = refl
 
-  guard-off : (x y : Bool) → (x and y and false) ≡ false
-  guard-off true true = refl
-  guard-off true false = refl
-  guard-off false y = refl
+  guard-off : (x y g z : Bool) → g ≡ true → (x and y and not (g or z)) ≡ false
+  guard-off true true g z e = rw e
+  guard-off true false g z e = refl
+  guard-off false y g z e = refl
 
   -- Done exactly where no request failed, every result was ready and none guarded.
   pub done-when : (i m : ℕ) (b : Bool) (ts : List Entry) (l : List Passage) → InOrder m ts → Damage FramingRefuses l
@@ -342,7 +341,7 @@ module _ (c : Settings) (boarding : Bool) (notYet : List ℕ) (to : c .printer �
         unanswered = λ e. rw (write-failed t (order .1) (order .2) (order .3) i b ts l d, e);
         unpolled = λ e p. rw (failed-first (requests c boarding notYet i b t ts l) [] (some-failed t (order .1) (order .2) (order .3) i b ts l d e silent p));
         unready = λ e p. rw (le-ltb (getD notYet i 0) (c .polls) (late-waits e p)) (sym (unready-off (not (anyOf (failed (c .printer)) (requests c boarding notYet i b t ts l ++ []))) (not (anyOf guards (t ∷ ts)))));
-        refused = λ e b′ l′ p g. rw g (sym (guard-off (not (anyOf (failed (c .printer)) (requests c boarding notYet i b t ts l ++ []))) (allReady (c .polls) notYet i (t ∷ ts))));
+        refused = λ e b′ l′ p g. sym (guard-off (not (anyOf (failed (c .printer)) (requests c boarding notYet i b t ts l ++ []))) (allReady (c .polls) notYet i (t ∷ ts)) (guards t) (anyOf guards ts) g);
         well = λ e b′ l′ p g.
             rw (
               any-append (failed (c .printer)) (requests c boarding notYet i b t ts l) (concat (courseFrom (suc i) b′ ts l′ .requests)),

@@ -13,7 +13,7 @@ use Rattle.fdl.specs.Writing.{confirmationBytes}
 use Rattle.protocol.specs.Line.{Passage, through, requestLost, replyLost, requestDamaged, replyDamaged, Sending, passageOf, restOf, DamagedBy, Damage}
 use Rattle.protocol.specs.Telegrams.{pollBytes}
 use Rattle.protocol.specs.Controller.{nothing, confirmation, gotIn}
-use Rattle.protocol.specs.Words.{anyOf, countOf, namesStation, heard, answered, failed, replyOf, butLast, UntilAnswered, isConfirmation, isNegative, gotConfirmation, gotNegative, isWrite, isWriteAsk, asked, FramingRefuses}
+use Rattle.protocol.specs.Words.{anyOf, countOf, namesStation, heard, answered, failed, replyOf, butLast, UntilAnswered, isConfirmation, isNegative, gotConfirmation, gotNegative, asked, askedIn, FramingRefuses}
 use Rattle.protocol.specs.Course.{isThrough, replyBy, sendingOf, exchange, meets, leaves, Polled, ready, late, silent, polls, polled}
 use Rattle.protocol.specs.Lemmas.Read.{poll-names}
 use Rattle.protocol.specs.Lemmas.Replies.{got-nothing, got-confirmation}
@@ -28,10 +28,10 @@ reply-behind : (s : Sending) (l : List Sending) → 1 ≤ length l → replyOf (
 reply-behind s [] h = absurd (omega arith)
 reply-behind s (t ∷ l) h = refl
 
-pub first-asks : (n : ℕ) (q r : List ℕ) (l : List Passage) → isWrite (exchange n q r l) ≡ isWriteAsk (asked q)
+pub first-asks : (n : ℕ) (q r : List ℕ) (l : List Passage) → askedIn (exchange n q r l) ≡ asked q
 unfolding exchange
 first-asks zero q r l = refl
-first-asks (suc n) q r l = by-pick (λ (x : List Sending). isWrite x ≡ isWriteAsk (asked q)) (isThrough (passageOf l)) (λ _. refl) (λ _. refl)
+first-asks (suc n) q r l = by-pick (λ (x : List Sending). askedIn x ≡ asked q) (isThrough (passageOf l)) (λ _. refl) (λ _. refl)
 
 module _ (c : Settings) (a : ℕ) (q r : List ℕ) (names : namesStation a (telegram.readOf q) ≡ true) (taken : accepted (telegram.readOf r) ≡ true) where
   answered-through : (p : Passage) → DamagedBy FramingRefuses p → answered a (sendingOf q r p) ≡ isThrough p

@@ -81,7 +81,6 @@ module _ (g : Given) (x : Station) (to : g .settings .printer ≤ 126) (from : g
     pub ran : line.next (hears g) (steps g) (begin g l x) ≡ at (restOf l) station (stop ending.NoOpening) 1
     pub sent : line.replyAfter (hears g) (steps g) (passageOf l) x q ≡ reply
     pub slots : station .slots ≡ x .slots
-    pub boarding : station .printer .boarding ≡ x .printer .boarding
     pub unanswered : answered here (firstSending (passageOf l) reply) ≡ false
     pub writes : station .printer .writes ≡ pick (heard here (firstSending (passageOf l) reply)) 0 (x .printer .writes)
 
@@ -104,7 +103,7 @@ module _ (g : Given) (x : Station) (to : g .settings .printer ≤ 126) (from : g
   unfolding readBy
   no-bytes = refl
 
-  module _ (l : List Passage) (s : Station) (r : List ℕ) (bad : FramingRefuses r) (same : s .slots ≡ x .slots) (kept : s .printer .boarding ≡ x .printer .boarding) where
+  module _ (l : List Passage) (s : Station) (r : List ℕ) (bad : FramingRefuses r) (same : s .slots ≡ x .slots) where
     failed : line.printerAfter (hears g) (steps g) (passageOf l) x q ≡ s → line.replyAfter (hears g) (steps g) (passageOf l) x q ≡ r
         → (o : Bool) → (arrives (passageOf l) and eqb (g .settings .printer) here) ≡ o → s .printer .writes ≡ pick o 0 (x .printer .writes) → Unopened l
     unfolding heard answered
@@ -115,7 +114,6 @@ module _ (g : Given) (x : Station) (to : g .settings .printer ≤ 126) (from : g
           ran = goes l s r e f ∙ rw (no-diagnosis r bad);
           sent = f;
           slots = same;
-          boarding = kept;
           unanswered = rw (names, h, bad) (off o);
           writes = rw (names, h) w;
         }
@@ -137,16 +135,16 @@ module _ (g : Given) (x : Station) (to : g .settings .printer ≤ 126) (from : g
       by : (p : Passage) → passageOf l ≡ p → DamagedBy FramingRefuses p → (o : Bool) → eqb (g .settings .printer) here ≡ o → Opens l
       by through e b true o = opens (is-ours o) e
       by through e b false o =
-          fails (failed l deafened [] no-bytes refl refl (rw e (ap (λ a. a .state) (other-heard o))) (rw e (ap (λ a. a .reply) (other-heard o))) false (rw (e, o)) refl)
-      by requestLost e b o _ = fails (failed l x [] no-bytes refl refl (rw e) (rw e) false (rw e) refl)
+          fails (failed l deafened [] no-bytes refl (rw e (ap (λ a. a .state) (other-heard o))) (rw e (ap (λ a. a .reply) (other-heard o))) false (rw (e, o)) refl)
+      by requestLost e b o _ = fails (failed l x [] no-bytes refl (rw e) (rw e) false (rw e) refl)
       by replyLost e b true o =
-          fails (failed l (stood (is-ours o)) [] no-bytes refl refl (rw e (ap (λ a. a .state) (opening-heard (is-ours o)))) (rw e) true (rw (e, o)) refl)
-      by replyLost e b false o = fails (failed l deafened [] no-bytes refl refl (rw e (ap (λ a. a .state) (other-heard o))) (rw e) false (rw (e, o)) refl)
+          fails (failed l (stood (is-ours o)) [] no-bytes refl (rw e (ap (λ a. a .state) (opening-heard (is-ours o)))) (rw e) true (rw (e, o)) refl)
+      by replyLost e b false o = fails (failed l deafened [] no-bytes refl (rw e (ap (λ a. a .state) (other-heard o))) (rw e) false (rw (e, o)) refl)
       by (requestDamaged s) e b o _ =
-          fails (failed l x [] no-bytes refl refl (rw e (ap (λ a. a .state) (ignores g .deaf x s b))) (rw e (ap (λ a. a .reply) (ignores g .deaf x s b))) false (rw e) refl)
+          fails (failed l x [] no-bytes refl (rw e (ap (λ a. a .state) (ignores g .deaf x s b))) (rw e (ap (λ a. a .reply) (ignores g .deaf x s b))) false (rw e) refl)
       by (replyDamaged s) e b true o =
-          fails (failed l (stood (is-ours o)) s b refl refl (rw e (ap (λ a. a .state) (opening-heard (is-ours o)))) (rw e) true (rw (e, o)) refl)
-      by (replyDamaged s) e b false o = fails (failed l deafened s b refl refl (rw e (ap (λ a. a .state) (other-heard o))) (rw e) false (rw (e, o)) refl)
+          fails (failed l (stood (is-ours o)) s b refl (rw e (ap (λ a. a .state) (opening-heard (is-ours o)))) (rw e) true (rw (e, o)) refl)
+      by (replyDamaged s) e b false o = fails (failed l deafened s b refl (rw e (ap (λ a. a .state) (other-heard o))) (rw e) false (rw (e, o)) refl)
 
   -- where it opens: the printer stands, the first write is asked for, and the opening was answered
   module _ (l : List Passage) (ours : x .printer .address ≡ g .settings .printer) (t : passageOf l ≡ through) where

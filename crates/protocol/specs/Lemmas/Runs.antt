@@ -112,6 +112,24 @@ module _ {P O E : Type 0} (hear : P → List ℕ → Answered P) (step : O → L
       let k : v ≡ u + (v - u) = omega arith in
       ap (λ w. run hear step w x) k ∙ run-add u (v - u) x ∙ run-stop (v - u) (run hear step u x) h
 
+-- what every hearing keeps of the printer's end, every run keeps
+module _ {P O E A : Type 0} (hear : P → List ℕ → Answered P) (step : O → List ℕ → Move O E) (of : P → A) (kept : (p : P) (s : List ℕ) → of (hear p s .state) ≡ of p) where
+  sending-keeps : (c : Passage) (p : P) (q : List ℕ) → of (printerAfter hear step c p q) ≡ of p
+  sending-keeps through p q = kept p q
+  sending-keeps requestLost p q = refl
+  sending-keeps replyLost p q = kept p q
+  sending-keeps (requestDamaged bytes) p q = kept p bytes
+  sending-keeps (replyDamaged bytes) p q = kept p q
+
+  next-keeps : (l : List Passage) (p : P) (m : Move O E) (n : ℕ) → of (nextBy hear step l p m n .printer) ≡ of p
+  next-keeps l p (stop e) n = refl
+  next-keeps l p (go q o) n = sending-keeps (passageOf l) p q
+
+  pub run-keeps : (m : ℕ) (x : Config P O E) → of (run hear step m x .printer) ≡ of (x .printer)
+  unfolding run
+  run-keeps zero x = refl
+  run-keeps (suc m) x = run-keeps m (next hear step x) ∙ next-keeps (x .line) (x .printer) (x .move) (x .sent)
+
 -- ---- the sendings of one request
 
 -- one where it is answered or no repeat is left, and else one and then those of the repeats

@@ -16,11 +16,12 @@ use Rattle.service.specs.Writing.{telegramFor}
 use Rattle.book.specs.Contents.{Entry, InOrder}
 use Rattle.protocol.specs.Line.{Passage, Sending}
 use Rattle.protocol.specs.Telegrams.{carrying, countedCode, writeBytes, pollBytes}
-use Rattle.protocol.specs.Words.{sameBytes, isWrite, isWriteAsk}
+use Rattle.protocol.specs.Printer.{poll}
+use Rattle.protocol.specs.Words.{sameBytes, askedIn, isWrite, isWriteAsk}
 use Rattle.protocol.specs.Course.{exchange, meets, leaves, Polled, ready, late, silent, polls, polled, resultOf, course}
 use Rattle.protocol.specs.Lemmas.Read.{write-asked, poll-asked}
 use Rattle.protocol.specs.Lemmas.Runs.{exchange-short}
-use Rattle.protocol.specs.Lemmas.Groups.{concat, concat-append, AllOf, Apart, apart-all, apart-append, exchange-all, Blocks, NoWrites, Templates}
+use Rattle.protocol.specs.Lemmas.Groups.{concat, concat-append, AllOf, Apart, apart-all, apart-append, exchange-all, Blocks, Polls, Templates}
 use Rattle.protocol.specs.Lemmas.Meets.{first-asks}
 use Rattle.protocol.specs.Lemmas.Means.{by-ways, wrote, polledAs, requests}
 use Rattle.protocol.specs.declared.controller.Settings.{Settings}
@@ -145,16 +146,15 @@ module _ (c : Settings) (boarding : Bool) (notYet : List ℕ) where
 -- ---- each template's write, and then polls
 
 module _ (c : Settings) (to : c .printer ≤ 126) (from : c .controller ≤ 126) where
-  no-write : (b : Bool) (r : List ℕ) (l : List Passage) → isWrite (exchange (c .repeats) (pollBytes (c .printer) (c .controller) b) r l) ≡ false
-  no-write b r l =
-      first-asks (c .repeats) (pollBytes (c .printer) (c .controller) b) r l ∙ ap isWriteAsk (poll-asked (c .printer) (c .controller) to from b)
+  is-poll : (b : Bool) (r : List ℕ) (l : List Passage) → askedIn (exchange (c .repeats) (pollBytes (c .printer) (c .controller) b) r l) ≡ poll
+  is-poll b r l = first-asks (c .repeats) (pollBytes (c .printer) (c .controller) b) r l ∙ poll-asked (c .printer) (c .controller) to from b
 
-  polls-only : (result : List ℕ) (left wait : ℕ) (b : Bool) (l : List Passage) → NoWrites (polls c result left wait b l)
+  polls-only : (result : List ℕ) (left wait : ℕ) (b : Bool) (l : List Passage) → Polls (polls c result left wait b l)
   unfolding polls
-  polls-only result left zero b l = (no-write b result l, tt)
-  polls-only result zero (suc wait) b l = (no-write b confirmationBytes l, tt)
+  polls-only result left zero b l = (is-poll b result l, tt)
+  polls-only result zero (suc wait) b l = (is-poll b confirmationBytes l, tt)
   polls-only result (suc left) (suc wait) b l =
-      (no-write b confirmationBytes l, by-pick NoWrites (meets (c .repeats) l) (λ _. polls-only result left wait (not b) (leaves (c .repeats) l)) (λ _. tt))
+      (is-poll b confirmationBytes l, by-pick Polls (meets (c .repeats) l) (λ _. polls-only result left wait (not b) (leaves (c .repeats) l)) (λ _. tt))
 
   module _ (boarding : Bool) (notYet : List ℕ) where
     pub course-templates : (i m : ℕ) (b : Bool) (ts : List Entry) (l : List Passage) → InOrder m ts → Templates (course c boarding notYet i b ts l .requests)
@@ -172,10 +172,10 @@ module _ (c : Settings) (to : c .printer ≤ 126) (from : c .controller ≤ 126)
       where
         write : isWrite (wrote c boarding notYet i b t ts l) ≡ true
         write =
-            first-asks (c .repeats) (writeBytes (c .printer) (c .controller) b (t .slot) (t .body)) confirmationBytes l
-            ∙ ap isWriteAsk (write-asked (c .printer) (c .controller) to from b (t .slot) (t .body) (order .2) (order .3))
+            ap isWriteAsk (first-asks (c .repeats) (writeBytes (c .printer) (c .controller) b (t .slot) (t .body)) confirmationBytes l
+            ∙ write-asked (c .printer) (c .controller) to from b (t .slot) (t .body) (order .2) (order .3))
 
-        polling : NoWrites (polls c (resultOf c boarding notYet t) (c .polls - 1) (getD notYet i 0) (not b) (leaves (c .repeats) l))
+        polling : Polls (polls c (resultOf c boarding notYet t) (c .polls - 1) (getD notYet i 0) (not b) (leaves (c .repeats) l))
         polling = polls-only (resultOf c boarding notYet t) (c .polls - 1) (getD notYet i 0) (not b) (leaves (c .repeats) l)
 
 -- ---- how many sendings

@@ -11,8 +11,7 @@ use Rattle.book.specs.Contents.{Entry, InOrder}
 use Rattle.protocol.specs.Line.{Passage, Sending, Damage}
 use Rattle.protocol.specs.Slots.{Slots, Slot, slotIn, written, Sized, filled}
 use Rattle.protocol.specs.Telegrams.{writeBytes}
-use Rattle.protocol.specs.Printer.{guarded}
-use Rattle.protocol.specs.Words.{anyOf, heard, writeIn, FramingRefuses}
+use Rattle.protocol.specs.Words.{anyOf, heard, writeIn, guarded, FramingRefuses}
 use Rattle.protocol.specs.Course.{meets, oneArrives, unless, course}
 use Rattle.protocol.specs.Demand.{At}
 use Rattle.protocol.specs.Lemmas.Read.{write-names}
