@@ -20,7 +20,7 @@ ghost use Rattle.protocol.specs.Line.{go};
 ghost use Rattle.protocol.specs.Telegrams.{countedCode, openingBytes, pollBytes};
 ghost use Rattle.protocol.specs.Check.{storedIn};
 ghost use Rattle.protocol.specs.Controller.{askFor, acted, leaving};
-ghost use Rattle.protocol.specs.Lemmas.Accepted.{Settled};
+ghost use Rattle.protocol.specs.Verdicts.{Settled};
 ghost use Rattle.protocol.specs.declared.controller.Job.the-variants as job;
 ghost use Rattle.protocol.specs.declared.controller.Controller.the-variants as controller;
 ghost use Rattle.controller_state.specs.Accepted.{Accepted};

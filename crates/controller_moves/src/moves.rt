@@ -6,7 +6,7 @@ ghost use lib.ListN.{length, drop};
 ghost use Rattle.octets.specs.Front.{fine};
 ghost use Rattle.book.specs.Contents.{Entry, templatesOf};
 ghost use Rattle.protocol.specs.Controller.{settled as settledBy, pollAgain, afterWrite, afterPoll, afterOpening, afterJob, moveBy, verdictOf};
-ghost use Rattle.protocol.specs.Lemmas.Accepted.{Settled};
+ghost use Rattle.protocol.specs.Verdicts.{Settled};
 ghost use Rattle.controller_input.specs.Meaning.{gotBy, exchanged};
 ghost use Rattle.controller_state.specs.Accepted.{Accepted, Standing};
 ghost use Rattle.controller_moves.specs.Next.{Says, mayRepeat};

@@ -15,7 +15,8 @@ use Rattle.book.specs.Reading.{readOf}
 use Rattle.book.specs.declared.answers.Reading.{Reading}
 use Rattle.book.specs.declared.answers.Reading.the-variants as reading
 use Rattle.protocol.specs.Controller.{settingsVerdict, bookVerdict, wrongFcb, tooManyPolls, stateVerdict, verdictOf}
-use Rattle.protocol.specs.Lemmas.Accepted.{both-fine, Settled, settled}
+use Rattle.protocol.specs.Verdicts.{Settled}
+use Rattle.protocol.specs.Lemmas.Accepted.{both-fine, settled}
 use Rattle.protocol.specs.declared.controller.Settings.{Settings}
 use Rattle.protocol.specs.declared.controller.Job.{Job}
 use Rattle.protocol.specs.declared.controller.Controller.{Controller}

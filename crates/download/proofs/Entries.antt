@@ -1,21 +1,11 @@
 -- The entries of a line, as bytes and as the line's definition has them.
 use Prim.Native.Nat.{ℕ, zero, suc}
 use mathlib.Core.Path.{_≡_, refl}
-use mathlib.Core.Bool.{false}
 use mathlib.Core.List.{List, [], _∷_}
-use lib.Dec.{ltb}
 use lib.ListN.{getD, drop}
 use lib.Seq.{drop-nil}
-use Rattle.octets.specs.Fixed.{passed}
-use Rattle.octets.specs.Front.{fine}
 use Rattle.protocol.specs.Line.{Passage, passageOf, restOf}
-use Rattle.protocol.specs.Download.{passageBy, passagesOf, lineVerdict}
-
-pub entry-known : (l : List ℕ) (m : ℕ) → lineVerdict l ≡ fine → ltb 2 (getD l m 0) ≡ false
-unfolding lineVerdict
-entry-known [] m e = refl
-entry-known (b ∷ l) zero e = passed 12 (ltb 2 b) (lineVerdict l) e .0
-entry-known (b ∷ l) (suc m) e = entry-known l m (passed 12 (ltb 2 b) (lineVerdict l) e .1)
+use Rattle.protocol.specs.Download.{passageBy, passagesOf}
 
 pub passage-at : (l : List ℕ) (m : ℕ) → passageOf (drop m (passagesOf l)) ≡ passageBy (getD l m 0)
 passage-at [] m = rw (drop-nil m)

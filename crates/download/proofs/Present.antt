@@ -6,11 +6,9 @@ use native.Mathlib.Omega.{arith}
 use native.Mathlib.Decide.{decLt}
 use native.Mathlib.Nat.{mul-le-mul}
 use native.Mathlib.Numerals.{add-one}
-use lib.Dec.{ltb}
 use lib.ListN.{length, getD, take, drop}
 use lib.Seq.{take-append-seam}
-use borrow.Author.Tests.{le-ltb, ltb-false}
-use Rattle.octets.specs.Fixed.{passed}
+use borrow.Author.Tests.{le-ltb}
 use Rattle.octets.specs.Front.{fine, over}
 use Rattle.book.specs.Contents.{templatesOf}
 use Rattle.protocol.specs.Line as line
@@ -22,7 +20,7 @@ use Rattle.protocol.specs.Controller as controller
 use Rattle.protocol.specs.Download.{Given, Config, hears, steps, begin, sendings, bound, download, given, passageBy, passagesOf, verdictOf, requestBuffer, leaving, wholeBy, downloadOf}
 use Rattle.protocol.specs.Demand.{NotRefused}
 use Rattle.protocol.specs.Theorem.{all-are-sent}
-use Rattle.protocol.specs.Lemmas.Accepted.{usable, Taken, taken-so}
+use Rattle.protocol.specs.Lemmas.Accepted.{usable, entry-known, Taken, has-room, taken-so}
 use Rattle.protocol.specs.Lemmas.Runs.{at, run-stop, transcript-stop}
 use Rattle.protocol.specs.MachineLaws.Room.{over-long, request-fits}
 use Rattle.protocol.specs.MachineLaws.States.{state-counts, state-kept}
@@ -38,7 +36,7 @@ use Rattle.protocol.specs.declared.printer.Reaction.{Reaction}
 use Rattle.protocol.specs.declared.printer.Reaction.the-variants as reaction
 use Rattle.sending.specs.Laws.{stationAfter, Sent, sent-so, station-after}
 use Rattle.sending.specs.Sending.{sentBy, sentOf}
-use Rattle.download.proofs.Entries.{entry-known, passage-at, rest-at}
+use Rattle.download.proofs.Entries.{passage-at, rest-at}
 
 -- ---- what a move does
 
@@ -136,9 +134,6 @@ module _ {c : Settings} {book entries diagnosis : List ℕ} {x : Station} {u : L
 
   -- ---- the controller's step
 
-  has-room : 255 ≤ length u
-  has-room = ltb-false (length u) 255 (passed 11 (ltb (length u) 255) fine (t .room) .0)
-
   pub begins : Due g l x u 0 state.Fresh [] x u
   unfolding download stateVerdict
   begins =
@@ -147,7 +142,7 @@ module _ {c : Settings} {book entries diagnosis : List ℕ} {x : Station} {u : L
         ran = ap (λ (k : ℕ). line.run (hears g) (steps g) k (begin g l x)) all;
         stored = ap (λ (k : ℕ). requestBuffer (line.transcript (hears g) (steps g) k (begin g l x)) u) all;
         state = refl;
-        room = has-room;
+        room = has-room u (t .room);
         usable = t .station;
       }
 
@@ -180,7 +175,7 @@ module _ {c : Settings} {book entries diagnosis : List ℕ} {x : Station} {u : L
 
     -- both buffers have room for every telegram
     pub reply-room : Present g l x u m a y request → 255 ≤ length (y .buffer)
-    reply-room p = ltb-false (length (y .buffer)) 255 (usable diagnosis y (p .due .usable) .room)
+    reply-room p = usable diagnosis y (p .due .usable) .room
 
     pub request-room : Present g l x u m a y request → 255 ≤ length request
     request-room p = omega (arith, still-long g (p .shown) (kept p) (p .due .room), p .due .room)
@@ -214,7 +209,7 @@ module _ {c : Settings} {book entries diagnosis : List ℕ} {x : Station} {u : L
 
       heard : printer.leaving r lengths bodies reply ≡ stepped (record { station = y′; reply = after .back })
       unfolding sentOf
-      heard = sent ∙ rw (entry-known entries m (t .entries)) (after .heard)
+      heard = sent ∙ rw (le-ltb 2 (getD entries m 0) (entry-known entries (t .entries) m)) (after .heard)
 
       pub hears-it : {k : ℕ} → r ≡ reaction.Refused k → ⊥
       hears-it f = let h = ap (λ (z : Stepped). z .answer) heard in let z : _≡_ {A = ℕ} 0 1 = cc in omega arith

@@ -8,16 +8,17 @@ use mathlib.Core.List.{List, [], _∷_}
 use lib.Dec.{eqb, ltb}
 use lib.ListN.{length, getD, take, drop}
 use Rattle.octets.specs.Choice.{pick, _and_}
-use Rattle.octets.specs.Front.{fine}
 use Rattle.book.specs.Contents.{Entry, InOrder}
 use Rattle.protocol.specs.Line.{Passage, Sending, stop, Damage}
 use Rattle.protocol.specs.Slots.{slotIn, filled}
 use Rattle.protocol.specs.Printer.{Station}
-use Rattle.protocol.specs.Printer as printer-step
-use Rattle.protocol.specs.Download.{Given, Config, after, sendings, bound, download}
+use Rattle.protocol.specs.Download.{Given, Config, after, sendings, bound, download, given, passagesOf, Whole}
 use Rattle.protocol.specs.Words.{anyOf, countOf, heard, answered, failed, requestsIn, requestsAt, isOpening, writesHeard, writeIn, pollsIn, gotConfirmation, gotNegative, guarded, FramingRefuses, UntilAnswered}
+use Rattle.protocol.specs.Verdicts.{Usable}
 use Rattle.protocol.specs.Endings.{isDone, isNoOpening, isNoAnswer, isNotReady, isRefused, isStrange, stopsAt}
 use Rattle.protocol.specs.declared.controller.Ending.{Ending}
+use Rattle.protocol.specs.declared.controller.Settings.{Settings}
+use Rattle.protocol.specs.declared.download.Downloaded.the-variants as downloaded
 
 -- the template at place i of the book, counted from 0
 abbrev pub At : List Entry → (i : ℕ) → Entry → Type 0
@@ -42,8 +43,7 @@ pub record NotRefused (g : Given) (l : List Passage) (x : Station) : Type 0 wher
   pub in-order : InOrder 0 (g .book)
   pub some-templates : 1 ≤ length (g .book)
   pub templates : length (g .book) ≤ 16
-  -- the printer's own refusals
-  pub station : printer-step.verdictOf (g .diagnosis) x ≡ fine
+  pub station : Usable (g .diagnosis) x
   -- bytes that the line brings in place of a telegram are refused by framing
   pub damage : Damage FramingRefuses l
 
@@ -125,3 +125,12 @@ module _ (g : Given) (l : List Passage) (x : Station) where
     pub others-old : (slot : ℕ) → ((i : ℕ) (t : Entry) → At (g .book) i t → t .slot ≡ slot → ⊥) → Old slot
     -- Boarding is as it was after every number of sendings.
     pub boarding : (m : ℕ) → after g l x m .printer .printer .boarding ≡ x .printer .boarding
+
+-- ---- over lent bytes
+
+-- What holds of a call that is not refused, by its answer and the lent bytes as it leaves them: it ended as Demand3 says, it
+-- answers so with that number of sendings, and the lent slots are those of which Demand3 speaks.
+pub record Downloads (c : Settings) (book line notYet diagnosis : List ℕ) (x : Station) (w : Whole) : Type 0 where
+  pub demand : Demand3 (given c book notYet diagnosis) (passagesOf line) x
+  pub answer : let z : Config = final (given c book notYet diagnosis) (passagesOf line) x in w .answer ≡ downloaded.Ended (demand .ending) (z .sent) (z .printer .printer)
+  pub slots : w .slots ≡ final (given c book notYet diagnosis) (passagesOf line) x .printer .slots

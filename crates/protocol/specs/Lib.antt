@@ -8,6 +8,7 @@ pub mod Controller
 pub mod Reply
 pub mod Download
 pub mod Refusals
+pub mod Verdicts
 pub mod Words
 pub mod Endings
 pub mod Course
@@ -16,3 +17,4 @@ pub mod Lemmas
 pub mod Theorem
 pub mod Worked
 pub mod MachineLaws
+pub mod VerdictLaws

@@ -10,6 +10,7 @@ use lib.ListN.{length, getD, take, drop}
 use borrow.Author.Tests.{ne-eqb}
 use Rattle.octets.specs.Choice.{pick, _and_, _or_, never}
 use Rattle.octets.specs.Front.{fine}
+use Rattle.diagnosis.specs.Reading as diagnosis
 use Rattle.book.specs.Contents.{Entry}
 use Rattle.protocol.specs.Endings.{stopsAt}
 use Rattle.protocol.specs.Line as line
@@ -19,16 +20,16 @@ use Rattle.protocol.specs.Printer.{Station}
 use Rattle.content.specs.declared.fields.Content.the-variants as content
 use Rattle.protocol.specs.Telegrams.{openingCode, countedCode}
 use Rattle.protocol.specs.Controller.{askFor}
-use Rattle.protocol.specs.Download.{Given, Config, hears, steps, begin, after, sendings, bound, download, given, passagesOf, verdictOf, downloadOf}
+use Rattle.protocol.specs.Download.{Given, Config, hears, steps, begin, after, sendings, bound, download, given, passagesOf, verdictOf, Whole, downloadOf}
 use Rattle.protocol.specs.Words.{anyOf, heard, answered, failed, requestsIn, byTemplate, templatesIn, requestsAt, writesHeard, writeIn, FramingRefuses, UntilAnswered}
 use Rattle.protocol.specs.Course.{Course, course}
-use Rattle.protocol.specs.Demand.{At, NotRefused, Demand3, final, all, New, Old, writeHeard}
+use Rattle.protocol.specs.Demand.{At, NotRefused, Demand3, final, all, New, Old, writeHeard, Downloads}
 use Rattle.protocol.specs.Lemmas.Read.{opening-asked}
 use Rattle.protocol.specs.Lemmas.Replies.{Valid, valid}
 use Rattle.protocol.specs.Lemmas.Runs.{run-stop, run-keeps, transcript-add, transcript-stop, transcript-take, transcript-short, sent-counts, run-line, settles, damage-rest, asLost, damage-is-loss}
 use Rattle.protocol.specs.Lemmas.Groups.{concat, Apart, block-in, blocks-alone, Templates, templates-in, no-openings, Each, each-at}
 use Rattle.protocol.specs.Lemmas.Chain.{apart-take, chain-ran, chain-sent, chain-counts}
-use Rattle.protocol.specs.Lemmas.Accepted.{usable, not-refused}
+use Rattle.protocol.specs.Lemmas.Accepted.{unrefused, not-refused}
 use Rattle.protocol.specs.Lemmas.Hearing.{boarding-kept}
 use Rattle.protocol.specs.Lemmas.Ours.{ignores, next-new}
 use Rattle.protocol.specs.Lemmas.Follows.{Followed, fillAll, follows}
@@ -42,7 +43,6 @@ use Rattle.protocol.specs.declared.controller.Ending.{Ending}
 use Rattle.protocol.specs.declared.controller.Ending.the-variants as ending
 use Rattle.protocol.specs.declared.controller.Job.the-variants as job
 use Rattle.protocol.specs.declared.controller.Settings.{Settings}
-use Rattle.protocol.specs.declared.download.Downloaded.the-variants as downloaded
 
 -- who has ended sends nothing more
 ended-sent : (g : Given) (u v : ℕ) (y : Config) {e : Ending} → line.run (hears g) (steps g) u y .move ≡ stop e → u ≤ v
@@ -56,7 +56,7 @@ ended-sent g u v y h le =
 
 module _ (g : Given) (l : List Passage) (x : Station) (ok : NotRefused g l x) where
   diag : Valid (g .diagnosis)
-  diag = valid (g .diagnosis) (usable (g .diagnosis) x (ok .station) .diagnosis)
+  diag = valid (g .diagnosis) (unrefused (diagnosis.readOf (g .diagnosis)) (ok .station .diagnosis))
 
   abbrev here : ℕ
   here = x .printer .address
@@ -438,15 +438,16 @@ module _ (g : Given) (l : List Passage) (x : Station) (ok : NotRefused g l x) wh
 -- ---- the download over lent bytes
 
 module _ (c : Settings) (book line notYet diagnosis : List ℕ) (x : Station) (request : List ℕ) (z : Sized (x .slots)) (e : verdictOf c book line diagnosis x request ≡ fine) where
-  abbrev pub here-given : Given
-  here-given = given c book notYet diagnosis
-
   -- Demand 3 holds of it,
-  pub download-holds : Demand3 here-given (passagesOf line) x
-  download-holds = demand3 here-given (passagesOf line) x (not-refused c book line notYet diagnosis x request e) z
+  pub download-holds : Demand3 (given c book notYet diagnosis) (passagesOf line) x
+  download-holds = demand3 (given c book notYet diagnosis) (passagesOf line) x (not-refused c book line notYet diagnosis x request e) z
 
-  -- and its answer is the ending of which it speaks.
-  pub download-answers : downloadOf c book line notYet diagnosis x request .answer
-      ≡ downloaded.Ended (download-holds .ending) (final here-given (passagesOf line) x .sent) (final here-given (passagesOf line) x .printer .printer)
+  -- and its answer and its slots are those of which it speaks.
+  pub downloads : {w : Whole} → w ≡ downloadOf c book line notYet diagnosis x request → Downloads c book line notYet diagnosis x w
   unfolding downloadOf
-  download-answers = rw (e, download-holds .ends)
+  downloads {w} q =
+      record {
+        demand = download-holds;
+        answer = ap (λ (v : Whole). v .answer) q ∙ rw (e, download-holds .ends);
+        slots = ap (λ (v : Whole). v .slots) q ∙ rw e;
+      }

@@ -23,15 +23,15 @@ use Rattle.protocol.specs.declared.controller.Controller.{Controller}
 use Rattle.protocol.specs.declared.controller.Controller.the-variants as controller
 
 -- a job at which a controller may be that has n templates
-record Stands (c : Settings) (n k : ℕ) (j : Job) (fcb : Bool) (r : ℕ) : Type 0 where
-  from-one : 1 ≤ k
-  within : k ≤ n
-  polls : tooManyPolls c j ≡ false
-  repeats : r ≤ c .repeats
-  right-fcb : wrongFcb c k j fcb ≡ false
+pub record Stands (c : Settings) (n k : ℕ) (j : Job) (fcb : Bool) (r : ℕ) : Type 0 where
+  pub from-one : 1 ≤ k
+  pub within : k ≤ n
+  pub polls : tooManyPolls c j ≡ false
+  pub repeats : r ≤ c .repeats
+  pub right-fcb : wrongFcb c k j fcb ≡ false
 
 module _ (c : Settings) (n k : ℕ) (j : Job) (fcb : Bool) (r : ℕ) where
-  stands : stateVerdict c n (controller.Asking k j fcb r) ≡ fine → Stands c n k j fcb r
+  pub stands : stateVerdict c n (controller.Asking k j fcb r) ≡ fine → Stands c n k j fcb r
   unfolding stateVerdict
   stands e =
       let bit : Verdict = pick (wrongFcb c k j fcb) (fault 12) fine in
@@ -50,7 +50,7 @@ module _ (c : Settings) (n k : ℕ) (j : Job) (fcb : Bool) (r : ℕ) where
         right-fcb = passed 12 (wrongFcb c k j fcb) fine (s .1) .0;
       }
 
-  may-stand : Stands c n k j fcb r → stateVerdict c n (controller.Asking k j fcb r) ≡ fine
+  pub may-stand : Stands c n k j fcb r → stateVerdict c n (controller.Asking k j fcb r) ≡ fine
   unfolding stateVerdict
   may-stand s = rw (le-ltb k 1 (s .from-one), le-ltb n k (s .within), s .polls, le-ltb (c .repeats) r (s .repeats), s .right-fcb)
 
@@ -78,7 +78,7 @@ and-false true = refl
 and-false false = refl
 
 module _ (c : Settings) where
-  polls-bound : (left : ℕ) → tooManyPolls c (job.Poll left) ≡ false → left < c .polls
+  pub polls-bound : (left : ℕ) → tooManyPolls c (job.Poll left) ≡ false → left < c .polls
   polls-bound left e = ltb-true left (c .polls) (not-false (ltb left (c .polls)) e)
 
   -- so many requests of the template come before its next poll

@@ -1,41 +1,36 @@
 -- A printer that may be used may be used after whatever it hears.
 use Prim.Native.Nat.{ℕ, zero, suc, _≤_}
-use mathlib.Core.Path.{_≡_, refl, sym}
-use mathlib.Core.Bool.{Bool, true, false}
+use mathlib.Core.Path.{_≡_, refl}
+use mathlib.Core.Bool.{Bool}
 use mathlib.Core.List.{List, [], _∷_}
 use native.Mathlib.Omega.{arith}
-use lib.Dec.{ltb}
-use lib.ListN.{length, set}
-use borrow.Author.Tests.{le-ltb, ltb-false}
-use Rattle.octets.specs.Choice.{_or_, by-pick, never}
+use lib.ListN.{length, getD, set}
+use Rattle.octets.specs.Choice.{by-pick}
 use Rattle.octets.specs.Front.{fine, over}
-use Rattle.protocol.specs.Slots.{Slots, tooLong, Sized}
+use Rattle.diagnosis.specs.Reading as diagnosis
+use Rattle.protocol.specs.Slots.{Slots, Sized}
 use Rattle.protocol.specs.Printer.{Received, nothing, elsewhere, status, uncounted, opening, counted, receivedOf, Reply, bare, perform, openingReply, Station, Heard, isRepeat, replyBytes, heardBy, hear, verdictOf}
-use Rattle.protocol.specs.Lemmas.Accepted.{Usable, usable}
+use Rattle.protocol.specs.Lemmas.Accepted.{unrefused, usable, fine-printer}
 use Rattle.protocol.specs.Lemmas.Replies.{Valid, valid}
 use Rattle.protocol.specs.Lemmas.Slots.{written-sized}
 use Rattle.protocol.specs.MachineLaws.Memory.{keeps-itself}
 use Rattle.protocol.specs.MachineLaws.Printer.{Changes, kept, stored, slots-change}
 use Rattle.protocol.specs.MachineLaws.Room.{over-long, reply-fits}
 
-may-be-used : (diag : List ℕ) (x : Station) → Usable diag x → verdictOf diag x ≡ fine
-unfolding verdictOf
-may-be-used diag x u = rw (u .address, u .lengths, u .diagnosis, u .room)
-
 -- the slots' lengths
-neither : (a b : Bool) → (a or b) ≡ false → (a ≡ false) × (b ≡ false)
-neither true b e = absurd (never (sym e))
-neither false b e = (refl, e)
+abbrev Short : (lengths : List ℕ) → Type 0
+Short l = (i : ℕ) → getD l i 0 ≤ 200
 
-short-lengths : (l : List ℕ) (i n : ℕ) → n ≤ 200 → tooLong l ≡ false → tooLong (set l i n) ≡ false
-short-lengths [] i n h e = e
-short-lengths (a ∷ l) zero n h e = rw (le-ltb 200 n h) (neither (ltb 200 a) (tooLong l) e .1)
-short-lengths (a ∷ l) (suc i) n h e =
-    let both = neither (ltb 200 a) (tooLong l) e in rw (both .0) (short-lengths l i n h (both .1))
+still-short : (l : List ℕ) (i n : ℕ) → n ≤ 200 → Short l → Short (set l i n)
+still-short [] i n h s j = s j
+still-short (a ∷ l) zero n h s zero = h
+still-short (a ∷ l) zero n h s (suc j) = s (suc j)
+still-short (a ∷ l) (suc i) n h s zero = s 0
+still-short (a ∷ l) (suc i) n h s (suc j) = still-short l i n h (λ k. s (suc k)) j
 
-lengths-kept : {boarding : Bool} {s s′ : Slots} → Changes boarding s s′ → tooLong (s .lengths) ≡ false → tooLong (s′ .lengths) ≡ false
+lengths-kept : {boarding : Bool} {s s′ : Slots} → Changes boarding s s′ → Short (s .lengths) → Short (s′ .lengths)
 lengths-kept kept e = e
-lengths-kept {s = s} (stored index body i l f) e = short-lengths (s .lengths) index (length body) l e
+lengths-kept {s = s} (stored index body i l f) e = still-short (s .lengths) index (length body) l e
 
 -- the length of the buffer
 module _ (diag : List ℕ) (n : ℕ) (x : Station) (v : Valid diag) (room : 255 ≤ length (x .buffer)) where
@@ -59,9 +54,9 @@ station-kept diag n s x e =
     let u = usable diag x e in
     let y : Station = hear diag n s x .station in
     let same = keeps-itself diag n s x in
-    let long = long-heard diag n x (valid diag (u .diagnosis)) (ltb-false (length (x .buffer)) 255 (u .room)) (receivedOf (x .printer .address) s) in
+    let long = long-heard diag n x (valid diag (unrefused (diagnosis.readOf diag) (u .diagnosis))) (u .room) (receivedOf (x .printer .address) s) in
     let lengths = lengths-kept (slots-change diag n s x) (u .lengths) in
-    may-be-used diag y (record { address = rw (same .address) (u .address); lengths = lengths; diagnosis = u .diagnosis; room = rw long (u .room) })
+    fine-printer diag y (record { address = rw (same .address) (u .address); lengths = lengths; diagnosis = u .diagnosis; room = rw long (u .room) })
 
 -- and has its sixteen slots.
 pub slots-sized : (diag : List ℕ) (n : ℕ) (s : List ℕ) (x : Station) → Sized (x .slots) → Sized (hear diag n s x .station .slots)
