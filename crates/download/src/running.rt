@@ -1,8 +1,10 @@
 // A whole download: the controller's step and the sending of its request, in turns, until it ends.
 ghost use mathlib.Core.Path.{_≡_};
+ghost use lib.ListN.{length};
 ghost use Rattle.octets.specs.Front.{fine};
 ghost use Rattle.protocol.specs.Printer.{lending};
 ghost use Rattle.protocol.specs.Download.{leaving, verdictOf, downloadOf};
+ghost use Rattle.protocol.specs.Demand.{Downloads};
 use protocol::Action;
 use protocol::Check;
 use protocol::Controller;
@@ -92,6 +94,14 @@ fn until_ended(
     }
 }
 
+// What is lent are sixteen slots: so much the types say. It does nothing.
+fn sixteen(lengths: &[u8; 16], bodies: &[u8; 3200])
+    ensures { λ _. ⌜ (length (now (lengths .entry)) ≡ 16) × (length (now (bodies .entry)) ≡ 3200) ⌝ }
+{
+    let _lengths = &lengths[..];
+    let _bodies = &bodies[..];
+}
+
 // Runs a whole download of a book to a printer.
 pub fn run(
     settings: Settings,
@@ -105,9 +115,12 @@ pub fn run(
     reply: &mut [u8],
     request: &mut [u8],
 ) -> Downloaded
-    ensures { λ r. ⌜ leaving r (now (lengths .exit)) (now (bodies .exit)) (now (reply .exit)) (now (request .exit))
+    ensures whole { λ r. ⌜ leaving r (now (lengths .exit)) (now (bodies .exit)) (now (reply .exit)) (now (request .exit))
         ≡ downloadOf settings (now (book .entry)) (now (line .entry)) (now («not_yet» .entry)) (now (diagnosis .entry)) (lending printer (now (lengths .entry)) (now (bodies .entry)) (now (reply .entry))) (now (request .entry)) ⌝ }
+    ensures demand { λ r. ⌜ (verdictOf settings (now (book .entry)) (now (line .entry)) (now (diagnosis .entry)) (lending printer (now (lengths .entry)) (now (bodies .entry)) (now (reply .entry))) (now (request .entry)) ≡ fine
+        → Downloads settings (now (book .entry)) (now (line .entry)) (now («not_yet» .entry)) (now (diagnosis .entry)) (lending printer (now (lengths .entry)) (now (bodies .entry)) (now (reply .entry))) (leaving r (now (lengths .exit)) (now (bodies .exit)) (now (reply .exit)) (now (request .exit)))) ⌝ }
 {
+    sixteen(lengths, bodies);
     let verdict = download_check::usable(
         settings,
         book,

@@ -46,7 +46,7 @@ returns-2 c =
     let p = f .before .before in
     let a = p .before .before .before .before .before .before .before .before .args in
     let x = lending (f .found .given .0 .0) (now (a .lengths)) (now (a .bodies)) (now (a .reply)) in
-    let e = s .run .ensures ∙ ap (λ (k : Settings). downloadOf k (now (a .book)) (now (a .line)) (now (a .not-yet)) (now (a .diagnosis)) x (now (a .request))) (t .settings-in .ensures) in
+    let e = s .run .ensures .0 ∙ ap (λ (k : Settings). downloadOf k (now (a .book)) (now (a .line)) (now (a .not-yet)) (now (a .diagnosis)) x (now (a .request))) (t .settings-in .ensures) in
     let r = c .put-downloaded .ensures in
     rw (sym (p .printer-in .ensures) ∙ f .found .given .1) (
       r .0 ∙ ap (λ (w : Whole). refusalIn (w .answer)) e,
