@@ -6,3 +6,4 @@ pub mod Back
 pub mod Again
 pub mod Changed
 pub mod Long
+pub mod Classed

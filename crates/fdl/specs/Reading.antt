@@ -13,6 +13,8 @@ use Rattle.fdl.specs.declared.telegram.Format.{Format}
 use Rattle.fdl.specs.declared.telegram.Format.the-variants.{Sd1, Sd2, Sd3}
 use Rattle.fdl.specs.declared.telegram.Sap.{Sap}
 use Rattle.fdl.specs.declared.telegram.Sap.the-variants.{Absent, Present}
+use Rattle.fdl.specs.declared.reading.Classed.{Classed}
+use Rattle.fdl.specs.declared.reading.Classed.the-variants as classed
 use Rattle.fdl.specs.declared.reading.Extension.{Extension}
 use Rattle.fdl.specs.declared.reading.Extension.the-variants as extension
 use Rattle.fdl.specs.declared.reading.Reading.{Reading}
@@ -106,3 +108,20 @@ module _ (classes : ℕ → Class) where
 -- reading, by our classes
 abbrev pub readOf : List ℕ → Reading
 readOf s = readBy classOf s
+
+-- ---- a reading with the class of a telegram's function code
+
+-- by any classes: all else is as it is
+abbrev pub classedBy : (classes : ℕ → Class) → Reading → Classed
+classedBy classes Confirmation = classed.Confirmation
+classedBy classes (Token da sa) = classed.Token da sa
+classedBy classes (Telegram f h start len) = classed.Telegram f h start len (classes (h .fc))
+classedBy classes (Refused r) = classed.Refused r
+
+-- by one that is known already
+abbrev pub withClass : Class → Reading → Classed
+withClass k r = classedBy (λ (fc : ℕ). k) r
+
+-- by ours
+abbrev pub classedOf : List ℕ → Classed
+classedOf s = classedBy classOf (readOf s)

@@ -3,6 +3,7 @@
 mod reading;
 mod telegram;
 
+pub use reading::Classed;
 pub use reading::Extension;
 pub use reading::Reading;
 pub use telegram::Format;

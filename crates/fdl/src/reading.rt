@@ -2,6 +2,7 @@
 use crate::telegram::Format;
 use crate::telegram::Header;
 use crate::telegram::Sap;
+use function_code::Class;
 use octets::Refusal;
 
 // What bytes are. The user data of a telegram are the len bytes from start, which `octets::part`
@@ -17,6 +18,24 @@ pub enum Reading {
         header: Header,
         start: usize,
         len: usize,
+    },
+    Refused(Refusal),
+}
+
+// A reading, with the class of a telegram's function code: reading has to look it up, and who goes on by it
+// has it here, so that the table is not searched again.
+pub enum Classed {
+    Confirmation,
+    Token {
+        da: u8,
+        sa: u8,
+    },
+    Telegram {
+        format: Format,
+        header: Header,
+        start: usize,
+        len: usize,
+        class: Class,
     },
     Refused(Refusal),
 }

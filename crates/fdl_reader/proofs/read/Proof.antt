@@ -1,92 +1,52 @@
--- `fdl_reader::read` meets its contract, by what the leading bytes say.
-use mathlib.Core.Path.{_≡_, sym, ap, _∙_, subst}
-use Prim.Native.Nat.{ℕ, _≤_}
-use native.Mathlib.Omega.{arith}
+-- `fdl_reader::read` meets its contract: what the reading with the class says.
+use mathlib.Core.Path.{_≡_, sym, _∙_}
 use denote.Ref.{now}
-use Rattle.function_code.specs.Code.{classOf}
-use Rattle.fdl.specs.Reading.{framedOf, readOf}
-use Rattle.fdl.specs.declared.telegram.Format.{Format}
-use Rattle.fdl.specs.declared.telegram.Format.the-variants.{Sd1, Sd2, Sd3}
-use Rattle.fdl_leading.specs.Leading.{placeOf, Leads, leads}
-use Rattle.fdl_leading.specs.declared.Leading.{Leading}
+use Rattle.fdl.specs.Reading.{readOf}
+use Rattle.fdl.specs.Lemmas.Classed.{Says, said}
+use Rattle.fdl.specs.declared.reading.Classed.{Classed}
 use borrow.Author.Needs.{needs}
 use Rattle.fdl_reader.proofs.read.Statement.{statement}
 use Rattle.fdl_reader.proofs.read.Tie as tie
 
-abbrev entry : tie.After-leading-bytes → tie.Start
-entry c = c .before .before
+found : (c : tie.After-read-classed) {x : Classed} → c .read-classed .result ≡ x → Says (readOf (now (c .before .before .args .bytes))) x
+found c e = said (readOf (now (c .before .before .args .bytes))) (sym (c .read-classed .ensures) ∙ e)
 
--- what holds of the leading bytes, by their case
-led : (c : tie.After-leading-bytes) {l : Leading} → c .leading-bytes .result ≡ l → let s = now (entry c .args .bytes) in Leads s (readOf s) l
-led c e = let s = now (entry c .args .bytes) in subst (Leads s (readOf s)) (sym (c .leading-bytes .ensures) ∙ e) (leads s)
-
-near : (f : Format) → placeOf f ≤ 4
-near Sd1 = omega arith
-near Sd2 = omega arith
-near Sd3 = omega arith
-
-leading-bytes-requires : tie.Need-leading-bytes-requires
-leading-bytes-requires c κs = search needs
-
-enum-known-found : tie.Need-enum-known-found
-enum-known-found c = search needs
-
-place-of-requires : tie.Need-place-of-requires
-place-of-requires c κs = search needs
-
-cast-framed : tie.Need-cast-framed
-cast-framed c = search needs
-
-framed-requires : tie.Need-framed-requires
-framed-requires c κs =
-    let k = c .before .before in (
-      omega (arith, c .place-of .ensures, near (k .found .given .0 .0)),
-      led (k .before .before) (k .found .given .1) .1,
-    )
+read-classed-requires : tie.Need-read-classed-requires
+read-classed-requires c κs = search needs
 
 enum-told : tie.Need-enum-told
 enum-told c = search needs
 
-token-requires : tie.Need-token-requires
-token-requires c κs = search needs
-
-enum-told-2 : tie.Need-enum-told-2
-enum-told-2 c = search needs
+enum-known-found : tie.Need-enum-known-found
+enum-known-found c = search needs
 
 enum-known-found-2 : tie.Need-enum-known-found-2
 enum-known-found-2 c = search needs
 
+enum-known-found-3 : tie.Need-enum-known-found-3
+enum-known-found-3 c = search needs
+
 returns : tie.Need-returns
-returns c =
-    let p = c .before in
-    let k = p .before .before in
-    let g = k .found .given .0 in
-    c .framed .ensures
-    ∙ ap (λ (at : ℕ). framedOf classOf (now (entry (k .before .before) .args .bytes)) (g .0) at (g .1 .0)) (p .place-of .ensures)
-    ∙ led (k .before .before) (k .found .given .1) .0
+returns c = sym (found (c .before .before) (c .enum-told .given .1))
 
 returns-2 : tie.Need-returns-2
-returns-2 c = let k = c .before in c .token .ensures ∙ led (k .before .before) (k .enum-told .given .1)
+returns-2 c = let k = c .before in sym (found (k .before .before) (k .found .given .1))
 
 returns-3 : tie.Need-returns-3
-returns-3 c = led (c .before .before) (c .enum-told2 .given .1)
+returns-3 c = let k = c .before in sym (found (k .before .before) (k .found2 .given .1) .0)
 
 returns-4 : tie.Need-returns-4
-returns-4 c = let k = c .before in led (k .before .before) (k .found2 .given .1)
+returns-4 c = let k = c .before in sym (found (k .before .before) (k .found3 .given .1))
 
 pub read-spec : {M : Type 1} → statement M
 read-spec =
     tie.close
     (tie.spec
-    leading-bytes-requires
-    enum-known-found
-    place-of-requires
-    cast-framed
-    framed-requires
+    read-classed-requires
     enum-told
-    token-requires
-    enum-told-2
+    enum-known-found
     enum-known-found-2
+    enum-known-found-3
     returns
     returns-2
     returns-3

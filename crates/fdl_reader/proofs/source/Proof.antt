@@ -41,11 +41,11 @@ enum-known-found-2 c = search needs
 sap-length-requires : tie.Need-sap-length-requires
 sap-length-requires c κs = search needs
 
-add-t23 : tie.Need-add-t23
-add-t23 c = omega (arith, fits c, c .before .before .before .before .before .before .before .before .before .pre)
+add-t24 : tie.Need-add-t24
+add-t24 c = omega (arith, fits c, c .before .before .before .before .before .before .before .before .before .pre)
 
-sub-t24 : tie.Need-sub-t24
-sub-t24 c = fits c
+sub-t25 : tie.Need-sub-t25
+sub-t25 c = fits c
 
 returns : tie.Need-returns
 unfolding sourceOf
@@ -72,7 +72,7 @@ source-spec =
     enum-known-found
     enum-known-found-2
     sap-length-requires
-    add-t23
-    sub-t24
+    add-t24
+    sub-t25
     returns
     returns-2)
