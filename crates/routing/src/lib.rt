@@ -1,7 +1,7 @@
 // Which service a telegram's function code and access points name, and which way it goes (document 01,
 // "Services by access point").
 ghost use mathlib.Core.Path.{_≡_};
-ghost use Rattle.access.specs.Route.{uncountedKind, kindOf, namedBy, isGlobalControl, callRoute, commandRoute, answerFrom, answerRoute, pointsWith, pointsBy, wayBy, routeOf, headerWith, headerOf, serviceRoute};
+ghost use Rattle.access.specs.Route.{uncountedKind, kindBy, kindOf, namedBy, isGlobalControl, callRoute, commandRoute, answerFrom, answerRoute, pointsWith, pointsBy, wayBy, routeBy, routeOf, headerWith, headerOf, serviceRoute};
 use access::Answering;
 use access::Kind;
 use access::Named;
@@ -13,6 +13,7 @@ use access_table::points_of;
 use fdl::Header;
 use fdl::Sap;
 use function_code::Class;
+use function_code::class_of;
 
 // Functions 4 and 6 carry Global_Control, and no other uncounted call carries a service.
 fn uncounted_kind(fc: u8) -> Kind
@@ -26,10 +27,10 @@ fn uncounted_kind(fc: u8) -> Kind
     }
 }
 
-fn kind_of(fc: u8) -> Kind
-    ensures { λ r. ⌜ r ≡ kindOf fc ⌝ }
+// The kind of telegram that a function code of this class makes.
+fn kind_by(class: Class, fc: u8) -> Kind
+    ensures { λ r. ⌜ r ≡ kindBy class fc ⌝ }
 {
-    let class = function_code::class_of(fc);
     match class {
         Class::Opening => Kind::Call,
         Class::Counted => Kind::Call,
@@ -38,6 +39,12 @@ fn kind_of(fc: u8) -> Kind
         Class::Data => Kind::Answer,
         Class::Reserved => Kind::Other,
     }
+}
+
+fn kind_of(fc: u8) -> Kind
+    ensures { λ r. ⌜ r ≡ kindOf fc ⌝ }
+{
+    kind_by(class_of(fc), fc)
 }
 
 // The service of the slave's and the master's access point. One of two names none.
@@ -190,14 +197,15 @@ fn way_by(kind: Kind, named: Named) -> Route
     }
 }
 
-// The route of a telegram with this header. What can carry no service is not looked up. The list is
-// searched in one place, so that the compiler puts the search here and its answer never stands in memory.
-pub fn route_of(header: Header) -> Route
-    ensures { λ r. ⌜ r ≡ routeOf header ⌝ }
+// The route of a telegram with this header, whose function code is taken to be of this class: who has read the telegram
+// has looked it up already. What can carry no service is not looked up. The list is searched in one place, so that the
+// compiler puts the search here and its answer never stands in memory.
+pub fn route_by(class: Class, header: Header) -> Route
+    ensures { λ r. ⌜ r ≡ routeBy (kindBy class (header .fc)) (header .dsap) (header .ssap) ⌝ }
 {
     let dsap = header.dsap;
     let ssap = header.ssap;
-    let kind = kind_of(header.fc);
+    let kind = kind_by(class, header.fc);
     if let Kind::Other = kind {
         return Route::Nowhere;
     }
@@ -205,6 +213,13 @@ pub fn route_of(header: Header) -> Route
     let slave = points.slave;
     let master = points.master;
     way_by(kind, named_by(slave, master))
+}
+
+// The route of a telegram with this header.
+pub fn route_of(header: Header) -> Route
+    ensures { λ r. ⌜ r ≡ routeOf header ⌝ }
+{
+    route_by(class_of(header.fc), header)
 }
 
 // The route of a telegram that is made for this service with this function code: no list has to be searched.

@@ -1,6 +1,7 @@
--- `routing::kind_of` meets its contract: each class has its line.
-use Rattle.access.specs.Route.{kindOf}
-use mathlib.Core.Path.{sym, _∙_}
+-- `routing::kind_of` meets its contract: the kind by the class that was looked up.
+use mathlib.Core.Path.{ap, _∙_}
+use Rattle.function_code.specs.declared.code.Class.{Class}
+use Rattle.access.specs.Route.{kindBy, kindOf}
 use borrow.Author.Needs.{needs}
 use Rattle.routing.proofs.kind_of.Statement.{statement}
 use Rattle.routing.proofs.kind_of.Tie as tie
@@ -8,66 +9,14 @@ use Rattle.routing.proofs.kind_of.Tie as tie
 class-of-requires : tie.Need-class-of-requires
 class-of-requires c κs = search needs
 
-enum-told : tie.Need-enum-told
-enum-told c = search needs
-
-enum-told-2 : tie.Need-enum-told-2
-enum-told-2 c = search needs
-
-enum-told-3 : tie.Need-enum-told-3
-enum-told-3 c = search needs
-
-uncounted-kind-requires : tie.Need-uncounted-kind-requires
-uncounted-kind-requires c κs = search needs
-
-enum-told-4 : tie.Need-enum-told-4
-enum-told-4 c = search needs
-
-enum-told-5 : tie.Need-enum-told-5
-enum-told-5 c = search needs
-
-enum-told-6 : tie.Need-enum-told-6
-enum-told-6 c = search needs
+kind-by-requires : tie.Need-kind-by-requires
+kind-by-requires c κs = search needs
 
 returns : tie.Need-returns
 unfolding kindOf
-returns c = simp (sym (c .before .before .class-of .ensures) ∙ c .enum-told .given .1)
-
-returns-2 : tie.Need-returns-2
-unfolding kindOf
-returns-2 c = simp (sym (c .before .before .class-of .ensures) ∙ c .enum-told2 .given .1)
-
-returns-3 : tie.Need-returns-3
-unfolding kindOf
-returns-3 c = simp (sym (c .before .before .before .class-of .ensures) ∙ c .before .enum-told3 .given .1) (c .uncounted-kind .ensures)
-
-returns-4 : tie.Need-returns-4
-unfolding kindOf
-returns-4 c = simp (sym (c .before .before .class-of .ensures) ∙ c .enum-told4 .given .1)
-
-returns-5 : tie.Need-returns-5
-unfolding kindOf
-returns-5 c = simp (sym (c .before .before .class-of .ensures) ∙ c .enum-told5 .given .1)
-
-returns-6 : tie.Need-returns-6
-unfolding kindOf
-returns-6 c = simp (sym (c .before .before .class-of .ensures) ∙ c .enum-told6 .given .1)
+returns c =
+    let k = c .before in
+    c .kind-by .ensures ∙ ap (λ (x : Class). kindBy x (k .before .args .fc)) (k .class-of .ensures)
 
 pub kind-of-spec : {M : Type 1} → statement M
-kind-of-spec =
-    tie.close
-    (tie.spec
-    class-of-requires
-    enum-told
-    enum-told-2
-    enum-told-3
-    uncounted-kind-requires
-    enum-told-4
-    enum-told-5
-    enum-told-6
-    returns
-    returns-2
-    returns-3
-    returns-4
-    returns-5
-    returns-6)
+kind-of-spec = tie.close (tie.spec class-of-requires kind-by-requires returns)
