@@ -7,11 +7,13 @@ use mathlib.Core.List.{List, [], _∷_}
 use lib.Dec.{eqb}
 use borrow.Author.Tests.{eqb-true}
 use Rattle.octets.specs.Choice.{oneOf, by-pick}
+use Rattle.function_code.specs.Code.{classOf}
+use Rattle.function_code.specs.declared.code.Class.{Class}
 use Rattle.fdl.specs.declared.telegram.Header.{Header}
 use Rattle.fdl.specs.declared.telegram.Sap.{Sap}
 use Rattle.fdl.specs.declared.telegram.Sap.the-variants.{Absent, Present}
 use Rattle.access.specs.Table.{look, services, rowAt, pointsIn, pointsOf}
-use Rattle.access.specs.Route.{pointsWith, namedBy, kindOf, isGlobalControl, callRoute, commandRoute, answerFrom, answerRoute, wayBy, routeBy, routeOf, headerBy, headerOf, serviceRoute}
+use Rattle.access.specs.Route.{pointsWith, namedBy, kindBy, kindOf, isGlobalControl, callRoute, commandRoute, answerFrom, answerRoute, wayBy, routeBy, routeOf, headerBy, headerOf, serviceRoute}
 use Rattle.access.specs.declared.table.Service.{Service}
 use Rattle.access.specs.declared.table.Service.the-variants as service
 use Rattle.access.specs.declared.table.Row.{Row}
@@ -220,6 +222,11 @@ module _ (h : Header) where
   pub header-again : Again (routeOf h)
   unfolding routeOf
   header-again = again-as (routeOf h) (again-by (kindOf (h .fc)))
+
+-- The route by the class of its function code is the header's.
+pub class-route : (h : Header) {k : Class} → k ≡ classOf (h .fc) → routeBy (kindBy k (h .fc)) (h .dsap) (h .ssap) ≡ routeOf h
+unfolding kindOf routeOf
+class-route h e = ap (λ (k : Class). routeBy (kindBy k (h .fc)) (h .dsap) (h .ssap)) e
 
 -- ---- answers
 

@@ -2,13 +2,16 @@
 ghost use mathlib.Core.Path.{_≡_};
 ghost use Prim.Native.Nat.{_+_, _≤_};
 ghost use lib.ListN.{length};
+ghost use Rattle.function_code.specs.Code.{classOf};
 ghost use Rattle.access.specs.Route.{routeOf};
 ghost use Rattle.content.specs.Reading.{endOf};
-ghost use Rattle.service.specs.Reading.{placedAt, routedBy, serviceIn, readOf};
+ghost use Rattle.service.specs.Reading.{placedAt, routedBy, readOf};
 use access::Route;
 use content::UserData;
+use fdl::Classed;
 use fdl::Format;
 use fdl::Header;
+use function_code::Class;
 use octets::Mode;
 use octets::Refusal;
 use service::Reading;
@@ -36,12 +39,20 @@ fn placed(format: Format, header: Header, way: Way, at: usize, found: UserData) 
     }
 }
 
-// The service that the header names, with the user data that stand at `at` in the telegram.
-fn routed(format: Format, header: Header, at: usize, user: &[u8], mode: Mode) -> Reading
-    requires { ⌜ at + length (now user) ≤ 18446744073709551615 ⌝ }
+// The service that the header names, whose function code is of this class, with the user data that stand at `at` in the
+// telegram.
+fn routed(
+    class: Class,
+    format: Format,
+    header: Header,
+    at: usize,
+    user: &[u8],
+    mode: Mode,
+) -> Reading
+    requires { ⌜ (class ≡ classOf (header .fc)) × (at + length (now user) ≤ 18446744073709551615) ⌝ }
     ensures { λ r. ⌜ r ≡ routedBy (routeOf header) format header at (now (user .entry)) mode ⌝ }
 {
-    let route = routing::route_of(header);
+    let route = routing::route_by(class, header);
     match route {
         Route::Nowhere => Reading::Refused(Refusal { number: 10 }),
         Route::Call(service) => {
@@ -55,27 +66,24 @@ fn routed(format: Format, header: Header, at: usize, user: &[u8], mode: Mode) ->
     }
 }
 
-// The service that a telegram carries which `fdl_reader::read` read from these bytes already. A token, a short
-// confirmation and a bare answer carry none. User data that do not lie inside the bytes count as empty.
-fn carried(bytes: &[u8], telegram: fdl::Reading, mode: Mode) -> Reading
-    ensures { λ r. ⌜ r ≡ serviceIn (now (bytes .entry)) mode telegram ⌝ }
+// Reads a service: all of the lent slice is one telegram. A token, a short confirmation and a bare answer carry none.
+pub fn read(bytes: &[u8], mode: Mode) -> Reading
+    ensures { λ r. ⌜ r ≡ readOf (now (bytes .entry)) mode ⌝ }
 {
+    let telegram = fdl_reader::read_classed(bytes);
     match telegram {
-        fdl::Reading::Confirmation => Reading::Refused(Refusal { number: 10 }),
-        fdl::Reading::Token { da: _, sa: _ } => Reading::Refused(Refusal { number: 10 }),
-        fdl::Reading::Telegram {
+        Classed::Confirmation => Reading::Refused(Refusal { number: 10 }),
+        Classed::Token { da: _, sa: _ } => Reading::Refused(Refusal { number: 10 }),
+        Classed::Telegram {
             format,
             header,
             start,
             len,
-        } => routed(format, header, start, octets::part(bytes, start, len), mode),
-        fdl::Reading::Refused(refusal) => Reading::Refused(refusal),
+            class,
+        } => {
+            let user = octets::part(bytes, start, len);
+            routed(class, format, header, start, user, mode)
+        }
+        Classed::Refused(refusal) => Reading::Refused(refusal),
     }
-}
-
-// Reads a service: all of the lent slice is one telegram.
-pub fn read(bytes: &[u8], mode: Mode) -> Reading
-    ensures { λ r. ⌜ r ≡ readOf (now (bytes .entry)) mode ⌝ }
-{
-    carried(bytes, fdl_reader::read(bytes), mode)
 }

@@ -1,7 +1,9 @@
 -- `service_reader::routed` meets its contract: by the route, and the part lies inside the user data.
-use mathlib.Core.Path.{sym, ap, _∙_}
+use mathlib.Core.Path.{_≡_, sym, ap, _∙_}
 use native.Mathlib.Omega.{arith}
 use denote.Ref.{now}
+use Rattle.access.specs.Route.{routeOf}
+use Rattle.access.specs.Laws.{class-route}
 use Rattle.content.specs.Reading.{endOf}
 use Rattle.content.specs.Lemmas.Inside.{call-inside, answer-inside}
 use Rattle.service.specs.Reading.{placedAt, routedBy}
@@ -11,8 +13,14 @@ use borrow.Author.Needs.{needs}
 use Rattle.service_reader.proofs.routed.Statement.{statement}
 use Rattle.service_reader.proofs.routed.Tie as tie
 
-route-of-requires : tie.Need-route-of-requires
-route-of-requires c κs = search needs
+-- the route is the header's
+told : (c : tie.After-route-by) → routeOf (c .before .before .args .header) ≡ c .route-by .result
+told c =
+    let b = c .before .before in
+    sym (c .route-by .ensures ∙ class-route (b .args .header) (b .pre .0))
+
+route-by-requires : tie.Need-route-by-requires
+route-by-requires c κs = search needs
 
 enum-told : tie.Need-enum-told
 enum-told c = search needs
@@ -29,7 +37,7 @@ placed-requires c κs =
     let b = r .before .before .before .before in
     let a = b .args in
     let e = ap endOf (c .read-call .ensures) in
-    omega (arith, e, call-inside (r .route .given .0 .0) (now (a .user)) (a .mode), b .pre)
+    omega (arith, e, call-inside (r .route .given .0 .0) (now (a .user)) (a .mode), b .pre .1)
 
 enum-known-route-2 : tie.Need-enum-known-route-2
 enum-known-route-2 c = search needs
@@ -43,13 +51,13 @@ placed-requires-2 c κs =
     let b = r .before .before .before .before in
     let a = b .args in
     let e = ap endOf (c .read-answer .ensures) in
-    omega (arith, e, answer-inside (r .route2 .given .0 .0) (now (a .user)), b .pre)
+    omega (arith, e, answer-inside (r .route2 .given .0 .0) (now (a .user)), b .pre .1)
 
 returns : tie.Need-returns
 returns c =
     let r = c .before .before in
     let a = r .before .before .args in
-    sym (ap (λ (x : Route). routedBy x (a .format) (a .header) (a .at) (now (a .user)) (a .mode)) (sym (r .route-of .ensures) ∙ c .enum-told .given .1))
+    sym (ap (λ (x : Route). routedBy x (a .format) (a .header) (a .at) (now (a .user)) (a .mode)) (told r ∙ c .enum-told .given .1))
 
 returns-2 : tie.Need-returns-2
 returns-2 c =
@@ -57,7 +65,7 @@ returns-2 c =
     let r = k .before .before in
     let a = r .before .before .args in
     c .placed .ensures ∙ ap (placedAt (a .format) (a .header) way.Call (a .at)) (c .before .read-call .ensures)
-    ∙ sym (ap (λ (x : Route). routedBy x (a .format) (a .header) (a .at) (now (a .user)) (a .mode)) (sym (r .route-of .ensures) ∙ k .route .given .1))
+    ∙ sym (ap (λ (x : Route). routedBy x (a .format) (a .header) (a .at) (now (a .user)) (a .mode)) (told r ∙ k .route .given .1))
 
 returns-3 : tie.Need-returns-3
 returns-3 c =
@@ -65,13 +73,13 @@ returns-3 c =
     let r = k .before .before in
     let a = r .before .before .args in
     c .placed2 .ensures ∙ ap (placedAt (a .format) (a .header) way.Answer (a .at)) (c .before .read-answer .ensures)
-    ∙ sym (ap (λ (x : Route). routedBy x (a .format) (a .header) (a .at) (now (a .user)) (a .mode)) (sym (r .route-of .ensures) ∙ k .route2 .given .1))
+    ∙ sym (ap (λ (x : Route). routedBy x (a .format) (a .header) (a .at) (now (a .user)) (a .mode)) (told r ∙ k .route2 .given .1))
 
 pub routed-spec : {M : Type 1} → statement M
 routed-spec =
     tie.close
     (tie.spec
-    route-of-requires
+    route-by-requires
     enum-told
     enum-known-route
     read-call-requires
