@@ -4,12 +4,11 @@ use mathlib.Core.Path.{_≡_, refl, sym, ap, _∙_}
 use mathlib.Core.Bool.{Bool, true, false}
 use lib.Dec.{eqb}
 use Rattle.octets.specs.Choice.{by-pick, never}
-use Rattle.function_code.specs.Code.{classOf}
 use Rattle.function_code.specs.declared.code.Class.{Class}
 use Rattle.function_code.specs.declared.code.Class.the-variants as class
 use Rattle.fdl.specs.declared.telegram.Header.{Header}
 use Rattle.fdl.specs.declared.telegram.Sap.{Sap}
-use Rattle.access.specs.Route.{isGlobalControl, namedBy, callRoute, commandRoute, kindBy, kindOf, routeBy, routeOf}
+use Rattle.access.specs.Route.{isGlobalControl, namedBy, callRoute, commandRoute, kindBy, routeBy}
 use Rattle.access.specs.declared.route.Answering.{Answering}
 use Rattle.access.specs.declared.route.Kind.{Kind}
 use Rattle.access.specs.declared.table.Named.{Named}
@@ -41,6 +40,5 @@ by-class class.Bare fc dsap ssap e = absurd (never e)
 by-class class.Data fc dsap ssap e = absurd (never e)
 by-class class.Reserved fc dsap ssap e = absurd (never e)
 
-pub no-answer : (h : Header) (a : Answering) → isCall (classOf (h .fc)) ≡ true → routeOf h ≡ route.Answer a → ⊥
-unfolding routeOf kindOf
-no-answer h a e way = never (sym (by-class (classOf (h .fc)) (h .fc) (h .dsap) (h .ssap) e) ∙ ap isAnswer way)
+pub no-answer : (k : Class) (h : Header) (a : Answering) → isCall k ≡ true → routeBy (kindBy k (h .fc)) (h .dsap) (h .ssap) ≡ route.Answer a → ⊥
+no-answer k h a e way = never (sym (by-class k (h .fc) (h .dsap) (h .ssap) e) ∙ ap isAnswer way)

@@ -25,6 +25,7 @@ use acyclic::Call;
 use content::Content;
 use content::UserData;
 use fdl::Header;
+use function_code::Class;
 use octets::Mode;
 use octets::Refusal;
 
@@ -101,13 +102,13 @@ fn asked_by(at: usize, found: UserData) -> Ask
     }
 }
 
-// What a call with this header asks for, whose user data stand at `at`. No header of a call names an answer. The
-// printer reads parameters as DPV1.
-fn routed(header: Header, at: usize, user: &[u8]) -> Ask
-    requires { ⌜ (printer.isCall (classOf (header .fc)) ≡ true) × (at + length (now user) ≤ 255) ⌝ }
+// What a call with this header asks for, whose function code is of this class and whose user data stand at `at`. No
+// header of a call names an answer. The printer reads parameters as DPV1.
+fn routed(class: Class, header: Header, at: usize, user: &[u8]) -> Ask
+    requires { ⌜ (class ≡ classOf (header .fc)) × (printer.isCall class ≡ true) × (at + length (now user) ≤ 255) ⌝ }
     ensures { λ r. ⌜ ((s : List ℕ) (f : Format) → askIn s r ≡ printer.askBy s (routedBy (routeOf header) f header at (now (user .entry)) Dpv1)) ⌝ }
 {
-    let route = routing::route_of(header);
+    let route = routing::route_by(class, header);
     match route {
         Route::Nowhere => Ask::Unknown,
         Route::Call(service) => {
@@ -128,13 +129,21 @@ fn is_srd(fc: u8) -> bool
     fc % 16 == 13
 }
 
-// What a call with this header asks for, whose user data are the len bytes from start.
-pub(crate) fn asked_in(telegram: &[u8], header: Header, start: usize, len: usize) -> Ask
-    requires { ⌜ (printer.isCall (classOf (header .fc)) ≡ true) × (start + len ≤ 255) ⌝ }
+// What a call with this header asks for, whose function code is of this class and whose user data are the len bytes
+// from start.
+pub(crate) fn asked_in(
+    class: Class,
+    telegram: &[u8],
+    header: Header,
+    start: usize,
+    len: usize,
+) -> Ask
+    requires { ⌜ (class ≡ classOf (header .fc)) × (printer.isCall class ≡ true) × (start + len ≤ 255) ⌝ }
     ensures { λ r. ⌜ ((f : Format) → Telegram f header start len ≡ readOf (now (telegram .entry)) → askIn (now (telegram .entry)) r ≡ printer.askIn (now (telegram .entry)) (header .fc)) ⌝ }
 {
     if !is_srd(header.fc) {
         return Ask::Unknown;
     }
-    routed(header, start, octets::part(telegram, start, len))
+    let user = octets::part(telegram, start, len);
+    routed(class, header, start, user)
 }

@@ -56,10 +56,10 @@ pub(crate) fn called(
     start: usize,
     len: usize,
 ) -> Received
-    requires { ⌜ (isCall (classOf (header .fc)) ≡ true) × (start + len ≤ 255) ⌝ }
+    requires { ⌜ (class ≡ classOf (header .fc)) × (isCall class ≡ true) × (start + len ≤ 255) ⌝ }
     ensures { λ r. ⌜ ((f : Format) → Telegram f header start len ≡ readOf (now (telegram .entry)) → receivedIn (now (telegram .entry)) r ≡ calledBy class (now (telegram .entry)) header) ⌝ }
 {
-    let ask = asked_in(telegram, header, start, len);
+    let ask = asked_in(class, telegram, header, start, len);
     match class {
         Class::Opening => Received::Opening { sa: header.sa, ask },
         Class::Counted => Received::Counted {

@@ -1,7 +1,8 @@
 // What a telegram is to the printer (document 01, "Printer rules"): one case for each rule, and what a call
-// asks for. The telegram is read once, also where it carries a service.
+// asks for. The telegram is read once, also where it carries a service, and its class is looked up once.
 ghost use mathlib.Core.Path.{_≡_};
 ghost use Prim.Native.Nat.{_+_, _≤_};
+ghost use Rattle.function_code.specs.Code.{classOf};
 ghost use Rattle.fdl.specs.Reading.{readOf};
 ghost use Rattle.fdl.specs.declared.telegram.Format.{Format};
 ghost use Rattle.fdl.specs.declared.reading.Reading.the-variants.{Telegram};
@@ -13,8 +14,9 @@ mod calls;
 
 use calls::called;
 use calls::is_call;
+use fdl::Classed;
 use fdl::Header;
-use fdl::Reading;
+use function_code::Class;
 
 // What an opening or a counted call asks for. The body of a write is the len bytes of the telegram from
 // start, which `octets::part` hands back.
@@ -46,13 +48,19 @@ pub enum Received {
     Counted { fcb: bool, sa: u8, ask: Ask },
 }
 
-// What a telegram with this header is, whose user data are the len bytes from start: an answer is nothing to the printer,
-// whoever it is for.
-fn addressed(address: u8, telegram: &[u8], header: Header, start: usize, len: usize) -> Received
-    requires { ⌜ start + len ≤ 255 ⌝ }
+// What a telegram with this header is, whose function code is of this class and whose user data are the len bytes from
+// start: an answer is nothing to the printer, whoever it is for.
+fn addressed(
+    address: u8,
+    class: Class,
+    telegram: &[u8],
+    header: Header,
+    start: usize,
+    len: usize,
+) -> Received
+    requires { ⌜ (class ≡ classOf (header .fc)) × (start + len ≤ 255) ⌝ }
     ensures { λ r. ⌜ ((f : Format) → Telegram f header start len ≡ readOf (now (telegram .entry)) → receivedIn (now (telegram .entry)) r ≡ receivedBy address (now (telegram .entry)) (Telegram f header start len)) ⌝ }
 {
-    let class = function_code::class_of(header.fc);
     if !is_call(class) {
         return Received::Nothing;
     }
@@ -66,16 +74,17 @@ fn addressed(address: u8, telegram: &[u8], header: Header, start: usize, len: us
 pub fn receive(address: u8, telegram: &[u8]) -> Received
     ensures { λ r. ⌜ receivedIn (now (telegram .entry)) r ≡ receivedOf address (now (telegram .entry)) ⌝ }
 {
-    let reading = fdl_reader::read(telegram);
+    let reading = fdl_reader::read_classed(telegram);
     match reading {
-        Reading::Confirmation => Received::Nothing,
-        Reading::Token { da: _, sa: _ } => Received::Nothing,
-        Reading::Telegram {
+        Classed::Confirmation => Received::Nothing,
+        Classed::Token { da: _, sa: _ } => Received::Nothing,
+        Classed::Telegram {
             format: _,
             header,
             start,
             len,
-        } => addressed(address, telegram, header, start, len),
-        Reading::Refused(_) => Received::Nothing,
+            class,
+        } => addressed(address, class, telegram, header, start, len),
+        Classed::Refused(_) => Received::Nothing,
     }
 }

@@ -8,11 +8,8 @@ use Rattle.printer_input.proofs.addressed.Statement.{statement}
 use Rattle.printer_input.proofs.addressed.Tie as tie
 
 -- the test is the definition's
-told : (c : tie.After-is-call) → isCall (classOf (c .before .before .before .args .header .fc)) ≡ c .is-call .result
-told c = ap isCall (sym (c .before .class-of .ensures)) ∙ sym (c .is-call .ensures)
-
-class-of-requires : tie.Need-class-of-requires
-class-of-requires c κs = search needs
+told : (c : tie.After-is-call) → isCall (classOf (c .before .before .args .header .fc)) ≡ c .is-call .result
+told c = ap isCall (sym (c .before .before .pre .0)) ∙ sym (c .is-call .ensures)
 
 is-call-requires : tie.Need-is-call-requires
 is-call-requires c κs = search needs
@@ -28,14 +25,14 @@ returns-2 c f read =
 called-requires : tie.Need-called-requires
 called-requires c κs =
     let k = c .before .before in
-    (told (k .before) ∙ not-false _ (k .if1 .left), k .before .before .before .before .pre)
+    let b = k .before .before .before in
+    (b .pre .0, sym (k .before .is-call .ensures) ∙ not-false _ (k .if1 .left), b .pre .1)
 
 returns-3 : tie.Need-returns-3
 returns-3 c f read =
     let k = c .before .before .before in
-    simp (told (k .before) ∙ not-false _ (k .if1 .left), eq-eqb _ _ (c .before .if2 .left), ← k .before .before .class-of .ensures) (c .called .ensures f read)
+    simp (told (k .before) ∙ not-false _ (k .if1 .left), eq-eqb _ _ (c .before .if2 .left), ← k .before .before .before .pre .0) (c .called .ensures f read)
 
 pub addressed-spec : {M : Type 1} → statement M
 addressed-spec =
-    tie.close
-    (tie.spec class-of-requires is-call-requires returns returns-2 called-requires returns-3)
+    tie.close (tie.spec is-call-requires returns returns-2 called-requires returns-3)

@@ -1,16 +1,26 @@
 -- `printer_input::receive` meets its contract: by what the telegram is.
-use mathlib.Core.Path.{sym, ap, _∙_}
+use mathlib.Core.Path.{_≡_, sym, ap, _∙_}
 use native.Mathlib.Omega.{arith}
 use denote.Ref.{now}
 use Rattle.function_code.specs.Code.{classOf}
+use Rattle.fdl.specs.Reading.{readOf}
 use Rattle.fdl.specs.Laws.{data-inside}
+use Rattle.fdl.specs.Lemmas.Classed.{Says, said}
+use Rattle.fdl.specs.declared.reading.Classed.{Classed}
 use Rattle.protocol.specs.Printer.{receivedBy, receivedOf}
 use borrow.Author.Needs.{needs}
 use Rattle.printer_input.proofs.receive.Statement.{statement}
 use Rattle.printer_input.proofs.receive.Tie as tie
 
-read-requires : tie.Need-read-requires
-read-requires c κs = search needs
+abbrev entry : tie.After-read-classed → tie.Start
+entry c = c .before .before
+
+-- what the telegram that was read is
+found : (c : tie.After-read-classed) {x : Classed} → c .read-classed .result ≡ x → Says (readOf (now (entry c .args .telegram))) x
+found c e = said (readOf (now (entry c .args .telegram))) (sym (c .read-classed .ensures) ∙ e)
+
+read-classed-requires : tie.Need-read-classed-requires
+read-classed-requires c κs = search needs
 
 enum-told : tie.Need-enum-told
 enum-told c = search needs
@@ -23,40 +33,42 @@ enum-known-reading c = search needs
 
 addressed-requires : tie.Need-addressed-requires
 addressed-requires c κs =
-    let r = c .before .before .before in
-    let i = data-inside classOf (now (r .before .before .args .telegram)) (sym (r .read .ensures) ∙ c .before .reading .given .1) in
-    omega (arith, i .ends, i .most)
+    let k = c .before in
+    let r = k .before .before in
+    let f = found r (k .reading .given .1) in
+    let i = data-inside classOf (now (entry r .args .telegram)) (f .0) in
+    (f .1, omega (arith, i .ends, i .most))
 
 enum-told-3 : tie.Need-enum-told-3
 enum-told-3 c = search needs
 
 returns : tie.Need-returns
 unfolding receivedOf
-returns c = simp (sym (c .before .before .read .ensures) ∙ c .enum-told .given .1)
+returns c = simp (found (c .before .before) (c .enum-told .given .1))
 
 returns-2 : tie.Need-returns-2
 unfolding receivedOf
-returns-2 c = simp (sym (c .before .before .read .ensures) ∙ c .enum-told2 .given .1)
+returns-2 c = simp (found (c .before .before) (c .enum-told2 .given .1))
 
 returns-3 : tie.Need-returns-3
 unfolding receivedOf
 returns-3 c =
     let k = c .before .before in
     let r = k .before .before in
-    let a = r .before .before .args in
+    let a = entry r .args in
     let g = k .reading .given in
-    c .addressed .ensures (g .0 .0) (sym (g .1) ∙ r .read .ensures)
-    ∙ sym (ap (receivedBy (a .address) (now (a .telegram))) (sym (r .read .ensures) ∙ g .1))
+    let f = found r (g .1) .0 in
+    c .addressed .ensures (g .0 .0) (sym f) ∙ sym (ap (receivedBy (a .address) (now (a .telegram))) f)
 
 returns-4 : tie.Need-returns-4
 unfolding receivedOf
-returns-4 c = simp (sym (c .before .before .read .ensures) ∙ c .enum-told3 .given .1)
+returns-4 c = simp (found (c .before .before) (c .enum-told3 .given .1))
 
 pub receive-spec : {M : Type 1} → statement M
 receive-spec =
     tie.close
     (tie.spec
-    read-requires
+    read-classed-requires
     enum-told
     enum-told-2
     enum-known-reading

@@ -33,7 +33,7 @@ routed-requires c κs =
     let b = c .before .before .before .before in
     let a = b .args in
     let e = ap length (c .part .ensures) in
-    (b .pre .0, omega (arith, e, part-short (now (a .telegram)) (a .start) (a .len), b .pre .1))
+    (b .pre .0, b .pre .1, omega (arith, e, part-short (now (a .telegram)) (a .start) (a .len), b .pre .2))
 
 returns-2 : tie.Need-returns-2
 unfolding askIn readOf
