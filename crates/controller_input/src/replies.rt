@@ -2,6 +2,7 @@
 // another reply.
 ghost use mathlib.Core.Path.{_≡_};
 ghost use Rattle.protocol.specs.Controller as controller;
+ghost use Rattle.function_code.specs.Code.{classOf};
 ghost use Rattle.access.specs.Route.{routeOf};
 ghost use Rattle.content.specs.Reading.{diagnosisOf, dpv1AnswerOf, answerOf};
 ghost use Rattle.controller_input.specs.Meaning.{gotBy, gotOfData, gotOfRoute};
@@ -13,6 +14,7 @@ use acyclic::AnswerReading;
 use acyclic::Function;
 use diagnosis::Reading;
 use fdl::Header;
+use function_code::Class;
 
 // A negative answer: a write's alone is DF.
 fn negative(function: Function, code1: u8, code2: u8) -> Reply
@@ -101,11 +103,13 @@ fn answered(answering: Answering, user: &[u8]) -> Reply
     }
 }
 
-// What a telegram with this header and these user data says. A call is another reply, whatever it asks for.
-pub(crate) fn routed(header: Header, user: &[u8]) -> Reply
+// What a telegram with this header and these user data says, whose function code is of this class. A call is another
+// reply, whatever it asks for.
+pub(crate) fn routed(class: Class, header: Header, user: &[u8]) -> Reply
+    requires { ⌜ class ≡ classOf (header .fc) ⌝ }
     ensures { λ r. ⌜ gotBy r ≡ gotOfRoute (routeOf header) (now (user .entry)) ⌝ }
 {
-    let route = routing::route_of(header);
+    let route = routing::route_by(class, header);
     match route {
         Route::Nowhere => Reply::Other,
         Route::Call(_) => Reply::Other,

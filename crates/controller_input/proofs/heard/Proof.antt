@@ -26,7 +26,7 @@ part-requires : tie.Need-part-requires
 part-requires c κs = search needs
 
 routed-requires : tie.Need-routed-requires
-routed-requires c κs = search needs
+routed-requires c κs = c .before .before .before .before .pre .0
 
 returns-2 : tie.Need-returns-2
 unfolding readOf
@@ -40,7 +40,7 @@ returns-2 c =
     let own = sym (i .before .is-printers .ensures) ∙ not-false _ (i .if1 .left) in
     c .routed .ensures ∙ ap (gotOfRoute route) (k .part .ensures)
     ∙ route-got route (a .format) (a .header) (a .start) (partOf s (a .start) (a .len)) mode.Dpv1
-    ∙ ap (λ (t : Reading). gotBy (serviceIn s mode.Dpv1 t)) (b .pre)
+    ∙ ap (λ (t : Reading). gotBy (serviceIn s mode.Dpv1 t)) (b .pre .1)
     ∙ sym (ap (λ (t : Bool). pick t (gotBy (readOf s mode.Dpv1)) other) own)
 
 pub heard-spec : {M : Type 1} → statement M

@@ -1,13 +1,23 @@
 -- `controller_input::take` meets its contract: by what the reply is.
-use mathlib.Core.Path.{sym, ap, _∙_}
+use mathlib.Core.Path.{_≡_, sym, ap, _∙_}
 use denote.Ref.{now}
+use Rattle.fdl.specs.Reading.{readOf}
+use Rattle.fdl.specs.Lemmas.Classed.{Says, said}
+use Rattle.fdl.specs.declared.reading.Classed.{Classed}
 use Rattle.protocol.specs.Controller.{gotFrom, gotIn}
 use borrow.Author.Needs.{needs}
 use Rattle.controller_input.proofs.take.Statement.{statement}
 use Rattle.controller_input.proofs.take.Tie as tie
 
-read-requires : tie.Need-read-requires
-read-requires c κs = search needs
+abbrev entry : tie.After-read-classed → tie.Start
+entry c = c .before .before
+
+-- what the reply that was read is
+found : (c : tie.After-read-classed) {x : Classed} → c .read-classed .result ≡ x → Says (readOf (now (entry c .args .reply))) x
+found c e = said (readOf (now (entry c .args .reply))) (sym (c .read-classed .ensures) ∙ e)
+
+read-classed-requires : tie.Need-read-classed-requires
+read-classed-requires c κs = search needs
 
 enum-told : tie.Need-enum-told
 enum-told c = search needs
@@ -19,37 +29,39 @@ enum-known-reading : tie.Need-enum-known-reading
 enum-known-reading c = search needs
 
 heard-requires : tie.Need-heard-requires
-heard-requires c κs = sym (c .before .reading .given .1) ∙ c .before .before .before .read .ensures
+heard-requires c κs =
+    let k = c .before in
+    let f = found (k .before .before) (k .reading .given .1) in
+    (f .1, sym (f .0))
 
 enum-told-3 : tie.Need-enum-told-3
 enum-told-3 c = search needs
 
 returns : tie.Need-returns
 unfolding gotIn
-returns c = simp (sym (c .before .before .read .ensures) ∙ c .enum-told .given .1)
+returns c = simp (found (c .before .before) (c .enum-told .given .1))
 
 returns-2 : tie.Need-returns-2
 unfolding gotIn
-returns-2 c = simp (sym (c .before .before .read .ensures) ∙ c .enum-told2 .given .1)
+returns-2 c = simp (found (c .before .before) (c .enum-told2 .given .1))
 
 returns-3 : tie.Need-returns-3
 unfolding gotIn
 returns-3 c =
     let k = c .before .before in
     let r = k .before .before in
-    let a = r .before .before .args in
-    let g = k .reading .given in
-    c .heard .ensures ∙ sym (ap (gotFrom (a .settings) (now (a .reply))) (sym (r .read .ensures) ∙ g .1))
+    let a = entry r .args in
+    c .heard .ensures ∙ sym (ap (gotFrom (a .settings) (now (a .reply))) (found r (k .reading .given .1) .0))
 
 returns-4 : tie.Need-returns-4
 unfolding gotIn
-returns-4 c = simp (sym (c .before .before .read .ensures) ∙ c .enum-told3 .given .1)
+returns-4 c = simp (found (c .before .before) (c .enum-told3 .given .1))
 
 pub take-spec : {M : Type 1} → statement M
 take-spec =
     tie.close
     (tie.spec
-    read-requires
+    read-classed-requires
     enum-told
     enum-told-2
     enum-known-reading
