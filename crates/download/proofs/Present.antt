@@ -22,8 +22,8 @@ use Rattle.protocol.specs.Demand.{NotRefused}
 use Rattle.protocol.specs.Theorem.{all-are-sent}
 use Rattle.protocol.specs.Lemmas.Accepted.{usable, entry-known, Taken, has-room, taken-so}
 use Rattle.protocol.specs.Lemmas.Runs.{at, run-stop, transcript-stop}
-use Rattle.protocol.specs.MachineLaws.Room.{over-long, request-fits}
-use Rattle.protocol.specs.MachineLaws.States.{state-counts, state-kept}
+use Rattle.protocol.specs.MachineLaws.Room.{over-long}
+use Rattle.protocol.specs.MachineLaws.Steps.{usable-after, step-moves, Kept, move-kept}
 use Rattle.protocol.specs.declared.controller.Action.{Action}
 use Rattle.protocol.specs.declared.controller.Action.the-variants as action
 use Rattle.protocol.specs.declared.controller.Controller.{Controller}
@@ -34,7 +34,7 @@ use Rattle.protocol.specs.declared.download.Downloaded.the-variants as download
 use Rattle.protocol.specs.declared.printer.Printer.{Printer}
 use Rattle.protocol.specs.declared.printer.Reaction.{Reaction}
 use Rattle.protocol.specs.declared.printer.Reaction.the-variants as reaction
-use Rattle.sending.specs.Laws.{stationAfter, Sent, sent-so, station-after}
+use Rattle.sending.specs.Laws.{stationAfter, Sent, sent-so}
 use Rattle.sending.specs.Sending.{sentBy, sentOf}
 use Rattle.download.proofs.Entries.{passage-at, rest-at}
 
@@ -64,16 +64,11 @@ never-refused ends k e = let z : _≡_ {A = ℕ} 0 1 = cc in omega arith
 
 -- ---- the present: m sendings are behind, and what is left comes to the whole
 
--- its state is not refused, and its request fits
-abbrev Kept : Given → Move → Type 0
-Kept g (go q o) = (stateVerdict (g .settings) (length (g .book)) o ≡ fine) × (length q ≤ 255)
-Kept g (stop e) = Unit {0}
-
-shows : (g : Given) (before : List ℕ) (m : Move) → Kept g m → 255 ≤ length before → Shows before m (acted m before .answer) (acted m before .buffer)
+shows : (g : Given) (before : List ℕ) (m : Move) → Kept (g .settings) (g .book) m → 255 ≤ length before → Shows before m (acted m before .answer) (acted m before .buffer)
 shows g before (go q o) k room = rw (le-ltb (length before) (length q) (omega (arith, k .1))) sends
 shows g before (stop e) k room = ends
 
-still-long : {before request : List ℕ} {m : Move} {a : Action} (g : Given) → Shows before m a request → Kept g m → 255 ≤ length before → length request ≡ length before
+still-long : {before request : List ℕ} {m : Move} {a : Action} (g : Given) → Shows before m a request → Kept (g .settings) (g .book) m → 255 ≤ length before → length request ≡ length before
 still-long {before} g (sends {q}) k room = over-long q before (omega (arith, k .1))
 still-long g ends k room = refl
 
@@ -120,17 +115,8 @@ module _ {c : Settings} {book entries diagnosis : List ℕ} {x : Station} {u : L
       let all : n * (1 + c .polls) * (c .repeats + 1) ≤ 16 * 32 * 8 = mul-le-mul (mul-le-mul (ok .templates) polls) repeats in
       omega arith
 
-  may-step : (o : Controller) → stateVerdict c (length (templatesOf book)) o ≡ fine → controller.verdictOf c book o ≡ fine
-  unfolding controller.verdictOf
-  may-step o e = rw (t .settings, t .templates) e
-
-  kept-next : (o : Controller) (s : List ℕ) → stateVerdict c (length (templatesOf book)) o ≡ fine → Kept g (steps g o s)
-  kept-next o s e = by (steps g o s) refl
-    where
-      by : (m : Move) → steps g o s ≡ m → Kept g m
-      by (go q o′) h =
-          (state-kept c (templatesOf book) o s (t .settings) e h, request-fits c (templatesOf book) (ok .in-order) o s (state-counts c (length (templatesOf book)) o e) h)
-      by (stop f) h = tt
+  kept-next : (o : Controller) (s : List ℕ) → stateVerdict c (length (templatesOf book)) o ≡ fine → Kept c (templatesOf book) (steps g o s)
+  kept-next o s e = move-kept c (templatesOf book) o s (t .settings) (ok .in-order) e
 
   -- ---- the controller's step
 
@@ -148,10 +134,9 @@ module _ {c : Settings} {book entries diagnosis : List ℕ} {x : Station} {u : L
 
   pub steps-so : {m : ℕ} {o : Controller} {back : List ℕ} {y : Station} {before : List ℕ} {a : Action} {request : List ℕ} → Due g l x u m o back y before
       → controller.leaving a request ≡ controller.stepOf c book o back before → Present g l x u m a y request
-  unfolding controller.stepOf
   steps-so {o} {back} {before} {a} {request} d h =
       let move : Move = steps g o back in
-      let e : controller.leaving a request ≡ acted move before = h ∙ rw (may-step o (d .state)) in
+      let e : controller.leaving a request ≡ acted move before = h ∙ step-moves c book o (t .settings) (t .templates) (d .state) back before in
       record {
         asked = o;
         back = back;
@@ -170,7 +155,7 @@ module _ {c : Settings} {book entries diagnosis : List ℕ} {x : Station} {u : L
     abbrev moved : Present g l x u m a y request → Move
     moved p = steps g (p .asked) (p .back)
 
-    kept : (p : Present g l x u m a y request) → Kept g (moved p)
+    kept : (p : Present g l x u m a y request) → Kept c (templatesOf book) (moved p)
     kept p = kept-next (p .asked) (p .back) (p .due .state)
 
     -- both buffers have room for every telegram
@@ -222,7 +207,7 @@ module _ {c : Settings} {book entries diagnosis : List ℕ} {x : Station} {u : L
           let here : Config = at (drop m l) y (moved p) m in
           let there : Config = line.next (hears g) (steps g) here in
           let now = going (p .shown) o n e in
-          let stays : Kept g (go q o) = subst (Kept g) (now .0) (kept p) in
+          let stays : Kept c (templatesOf book) (go q o) = subst (Kept c (templatesOf book)) (now .0) (kept p) in
           let left : bound g - m ≡ suc d = omega (arith, more-left e p) in
           let next : there ≡ at (drop (m + 1) l) y′ (steps g o back) (m + 1) =
           ap (λ (w : Move). line.nextBy (hears g) (steps g) (drop m l) y w m) (now .0) ∙ rw (passage-at entries m, rest-at l m, add-one) in
@@ -235,7 +220,7 @@ module _ {c : Settings} {book entries diagnosis : List ℕ} {x : Station} {u : L
                 ∙ p .due .stored;
             state = stays .0;
             room = request-room p;
-            usable = station-after g y q (p .due .usable) entry;
+            usable = usable-after g (passageBy entry) y q (p .due .usable);
           }
 
       pub goes-on : {h : Printer} {k : ℕ} → r ≡ reaction.Heard h k → Due g l x u (m + 1) o (take k reply) (printer.lending h lengths bodies reply) request

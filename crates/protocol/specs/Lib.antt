@@ -15,6 +15,8 @@ pub mod Course
 pub mod Demand
 pub mod Lemmas
 pub mod Theorem
-pub mod Worked
 pub mod MachineLaws
 pub mod VerdictLaws
+pub mod Cards
+pub mod CardsTheorem
+pub mod Worked

@@ -10,4 +10,5 @@ pub mod Moves
 pub mod Room
 pub mod States
 pub mod Stations
+pub mod Steps
 pub mod WorkedCalls

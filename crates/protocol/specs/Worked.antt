@@ -1,8 +1,10 @@
--- The worked download of document 01, computed, and the same at a boarding printer: demand 3 applies to both.
+-- The worked download of document 01, computed, and the same at a boarding printer: demand 3 applies to both. And the same by two
+-- cards, with damage on the line.
 use Prim.Native.Nat.{ℕ}
 use mathlib.Core.Path.{_≡_, refl}
 use mathlib.Core.Bool.{Bool, true, false}
 use mathlib.Core.List.{List, [], _∷_}
+use native.Mathlib.Omega.{arith}
 use lib.ListN.{getD, replicate}
 use Rattle.octets.specs.Front.{fine, heldBehind}
 use Rattle.octets.specs.Part.{partOf}
@@ -27,14 +29,18 @@ use Rattle.service.specs.Writing.{telegramFor}
 use Rattle.book.specs.Reading as book
 use Rattle.book.specs.Table.{goodPair, pairOf, tableOf}
 use Rattle.protocol.specs.Line as line
-use Rattle.protocol.specs.Line.{Sending, through, stop}
+use Rattle.protocol.specs.Line.{Passage, through, requestDamaged, replyDamaged, Sending, stop, Damage}
 use Rattle.protocol.specs.Slots.{Slot, slotIn}
 use Rattle.protocol.specs.Printer as printer-step
 use Rattle.protocol.specs.Printer.{askIn, receivedOf, hear, Station}
-use Rattle.protocol.specs.Controller.{gotIn, moveOf, settingsVerdict}
+use Rattle.protocol.specs.Controller as controller-step
+use Rattle.protocol.specs.Controller.{gotIn, moveOf, settingsVerdict, stateVerdict}
 use Rattle.protocol.specs.Download.{Given, Config, given, passagesOf, sendings, bound, download, lineVerdict, verdictOf}
+use Rattle.protocol.specs.Words.{FramingRefuses}
 use Rattle.protocol.specs.Demand.{Demand3}
 use Rattle.protocol.specs.Theorem.{download-holds}
+use Rattle.protocol.specs.Cards.{Cards, OrRefused, on, refused, switchedOn, turns, traffic, Fit, MeetDemand3}
+use Rattle.protocol.specs.CardsTheorem.{cards-meet-demand3}
 use Rattle.protocol.specs.declared.controller.Ending.the-variants as ending
 use Rattle.protocol.specs.declared.controller.Settings.{Settings}
 use Rattle.protocol.specs.declared.printer.Pending.the-variants as pending
@@ -92,6 +98,30 @@ module _ (boarding : Bool) where
   abbrev Taken : Type 0
   Taken = verdictOf settings bookBytes lineBytes diag (station boarding) (replicate 255 0) ≡ fine
 
+-- the same line with damage in place of its losses: a byte of the write's body changed, and its 5F changed to DF
+abbrev damaged : List Passage
+damaged =
+    through
+    ∷ requestDamaged (0x68 ∷ 0x0C ∷ 0x0C ∷ 0x68 ∷ 0x87 ∷ 0x82 ∷ 0x5C ∷ 0x33 ∷ 0x33 ∷ 0x5F ∷ 0x01 ∷ 0x07 ∷ 0x03 ∷ 0x41 ∷ 0x42 ∷ 0x42 ∷ 0xFB ∷ 0x16 ∷ [])
+    ∷ through
+    ∷ through
+    ∷ replyDamaged (0x68 ∷ 0x09 ∷ 0x09 ∷ 0x68 ∷ 0x82 ∷ 0x87 ∷ 0x08 ∷ 0x33 ∷ 0x33 ∷ 0xDF ∷ 0x01 ∷ 0x07 ∷ 0x03 ∷ 0xE1 ∷ 0x16 ∷ [])
+    ∷ through
+    ∷ []
+
+-- two cards on it
+abbrev cards : OrRefused Cards
+cards = switchedOn settings bookBytes (1 ∷ []) diag damaged (station false) (replicate 255 0)
+
+-- done after 6 sendings, one write performed, slot seven with the body in front
+abbrev DoneAfterSix : OrRefused Cards → Type 0
+DoneAfterSix (on z) =
+    (z .move ≡ stop ending.Done)
+    × (z .sent ≡ 6)
+    × (z .printer .printer .writes ≡ 1)
+    × (slotIn (z .printer .slots) 7 ≡ record { len = 3; bytes = 0x41 ∷ 0x42 ∷ 0x43 ∷ replicate 197 0 })
+DoneAfterSix (refused k) = ⊥
+
 pub record Rows : Type 0 where
   pub taken : (b : Bool) → Taken b
   pub within : bound world ≡ 7
@@ -116,9 +146,14 @@ pub record Rows : Type 0 where
   pub refused-sent : final true .sent ≡ 6
   pub refused-once : final true .printer .printer .writes ≡ 1
   pub kept : slot7 true ≡ record { len = 0; bytes = replicate 200 0 }
+  -- two cards: nothing of them is refused, framing refuses the damage, and they do the same
+  pub cards-taken : Fit settings bookBytes diag (station false) (replicate 255 0)
+  pub cards-damage : Damage FramingRefuses damaged
+  pub cards-codes : codes (traffic settings bookBytes (1 ∷ []) diag 7 cards) ≡ 0x6D ∷ 0x5C ∷ 0x5C ∷ 0x7C ∷ 0x5C ∷ 0x5C ∷ []
+  pub cards-done : DoneAfterSix (turns settings bookBytes (1 ∷ []) diag 7 cards)
 
 pub worked-download : Rows
-unfolding line.run line.transcript partOf classOf extensionOf sourceOf destinationOf tokenOf fieldsOf framedOf sd2Of readBy checksumOf coreOf telegramOf goodCode channelOf foundBy goodStatus1 goodStatus2 goodMaster blocksIn extDiagAgrees judge diagnosis.readOf kindOf headerOf routeOf services look rowAt answers.readAnswerOf answers.fourOf failedBy calls.readCallOf calls.fourOf namedIn goodCode1 aloneOf rangedOf countedOf countedAsOf negativeOf byNumber whereAllowed emptyOf callOf answerOf bytesFor readOf telegramFor heldBehind printer-step.judge askIn receivedOf hear gotIn moveOf download settingsVerdict lineVerdict verdictOf printer-step.verdictOf book.readOf book.bodiesBy tableOf pairOf goodPair
+unfolding line.run line.transcript partOf classOf extensionOf sourceOf destinationOf tokenOf fieldsOf framedOf sd2Of readBy checksumOf coreOf telegramOf goodCode channelOf foundBy goodStatus1 goodStatus2 goodMaster blocksIn extDiagAgrees judge diagnosis.readOf kindOf headerOf routeOf services look rowAt answers.readAnswerOf answers.fourOf failedBy calls.readCallOf calls.fourOf namedIn goodCode1 aloneOf rangedOf countedOf countedAsOf negativeOf byNumber whereAllowed emptyOf callOf answerOf bytesFor readOf telegramFor heldBehind printer-step.judge askIn receivedOf hear gotIn moveOf download settingsVerdict lineVerdict verdictOf printer-step.verdictOf printer-step.stepOf stateVerdict controller-step.verdictOf controller-step.stepOf turns traffic book.readOf book.bodiesBy tableOf pairOf goodPair
 worked-download =
     record {
       taken = by;
@@ -138,6 +173,10 @@ worked-download =
       refused-sent = refl;
       refused-once = refl;
       kept = refl;
+      cards-taken = record { settings = refl; templates = refl; station = refl; room = omega arith };
+      cards-damage = (tt, (refl, (tt, (tt, (refl, (tt, tt))))));
+      cards-codes = refl;
+      cards-done = (refl, refl, refl, refl);
     }
   where
     by : (b : Bool) → Taken b
@@ -148,3 +187,9 @@ worked-download =
 pub applies : (b : Bool) → Demand3 world (passagesOf lineBytes) (station b)
 applies b =
     download-holds settings bookBytes lineBytes (1 ∷ []) diag (station b) (replicate 255 0) (record { lengths = refl; bodies = refl }) (worked-download .taken b)
+
+-- And to the cards.
+pub cards-apply : MeetDemand3 settings bookBytes (1 ∷ []) diag damaged (station false) (replicate 255 0)
+cards-apply =
+    cards-meet-demand3 settings bookBytes (1 ∷ []) diag damaged (station false) (replicate 255 0) (worked-download .cards-taken) (worked-download .cards-damage)
+    (record { lengths = refl; bodies = refl })

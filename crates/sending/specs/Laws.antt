@@ -11,7 +11,7 @@ use Rattle.protocol.specs.Line.{Passage}
 use Rattle.protocol.specs.Printer.{Station, Stepped, stepped, hear, stepOf}
 use Rattle.protocol.specs.Printer as printer
 use Rattle.protocol.specs.Download.{Given, hears, steps, passageBy}
-use Rattle.protocol.specs.MachineLaws.Stations.{station-kept}
+use Rattle.protocol.specs.MachineLaws.Steps.{step-hears}
 use Rattle.sending.specs.Sending.{unanswered, sentBy}
 
 module _ (g : Given) (y : Station) (q : List ℕ) where
@@ -29,17 +29,10 @@ module _ (g : Given) (y : Station) (q : List ℕ) where
     number = getD (g .notYet) (y .printer .writes) 0
 
     heard-so : stepOf (g .diagnosis) number q y ≡ stepped (hear (g .diagnosis) number q y)
-    unfolding stepOf
-    heard-so = rw u
+    heard-so = step-hears (g .diagnosis) number q y u
 
     pub sent-so : (entry : ℕ) → Sent (passageBy entry) (sentBy (passageBy entry) q (g .notYet) (g .diagnosis) y)
     sent-so entry =
         by-pick (λ p. Sent p (sentBy p q (g .notYet) (g .diagnosis) y)) (eqb entry 1) (λ _. record { back = 0; heard = refl; reply = refl }) (λ _.
         by-pick (λ p. Sent p (sentBy p q (g .notYet) (g .diagnosis) y)) (eqb entry 2) (λ _. record { back = 0; heard = ap unanswered heard-so; reply = refl }) (λ _.
         record { back = hear (g .diagnosis) number q y .reply; heard = heard-so; reply = refl }))
-
-    pub station-after : (entry : ℕ) → printer.verdictOf (g .diagnosis) (stationAfter (passageBy entry)) ≡ fine
-    station-after entry =
-        let heard = station-kept (g .diagnosis) number q y u in
-        by-pick (λ p. printer.verdictOf (g .diagnosis) (stationAfter p) ≡ fine) (eqb entry 1) (λ _. u) (λ _.
-        by-pick (λ p. printer.verdictOf (g .diagnosis) (stationAfter p) ≡ fine) (eqb entry 2) (λ _. heard) (λ _. heard))
