@@ -1,7 +1,7 @@
 // Which service a telegram's function code and access points name, and which way it goes (document 01,
 // "Services by access point").
 ghost use mathlib.Core.Path.{_≡_};
-ghost use Rattle.access.specs.Route.{uncountedKind, kindBy, kindOf, namedBy, isGlobalControl, callRoute, commandRoute, answerFrom, answerRoute, pointsWith, pointsBy, wayBy, routeBy, routeOf, headerWith, headerOf, serviceRoute};
+ghost use Rattle.access.specs.Route.{uncountedKind, kindBy, kindOf, namedBy, isGlobalControl, callRoute, commandRoute, answerFrom, answerRoute, pointsWith, pointsBy, wayBy, routeBy, headerWith, headerOf, serviceRoute};
 use access::Answering;
 use access::Kind;
 use access::Named;
@@ -213,13 +213,6 @@ pub fn route_by(class: Class, header: Header) -> Route
     let slave = points.slave;
     let master = points.master;
     way_by(kind, named_by(slave, master))
-}
-
-// The route of a telegram with this header.
-pub fn route_of(header: Header) -> Route
-    ensures { λ r. ⌜ r ≡ routeOf header ⌝ }
-{
-    route_by(class_of(header.fc), header)
 }
 
 // The route of a telegram that is made for this service with this function code: no list has to be searched.
