@@ -13,7 +13,7 @@ use Rattle.octets.specs.Choice.{and-left, and-right, never}
 use Rattle.book.specs.Contents.{Entry}
 use Rattle.protocol.specs.Line.{stop}
 use Rattle.protocol.specs.Controller.{Got, nothing, confirmation, diagnosis, positive, negative, other, askFor, again, pollAgain, afterWrite, afterOpening, afterJob}
-use Rattle.protocol.specs.MachineLaws.Controller.{isNothing}
+use Rattle.protocol.specs.Words.{isNothing}
 use Rattle.protocol.specs.declared.controller.Settings.{Settings}
 use Rattle.protocol.specs.declared.controller.Job.{Job}
 use Rattle.protocol.specs.declared.controller.Job.the-variants as job

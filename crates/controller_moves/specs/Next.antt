@@ -11,7 +11,7 @@ use Rattle.book.specs.Contents.{Entry, templatesOf}
 use Rattle.protocol.specs.Line.{go, stop}
 use Rattle.protocol.specs.Telegrams.{openingBytes, pollBytes}
 use Rattle.protocol.specs.Controller.{Got, Move, askFor, moveOf, verdictOf}
-use Rattle.protocol.specs.MachineLaws.Controller.{isNothing}
+use Rattle.protocol.specs.Words.{isNothing}
 use Rattle.protocol.specs.declared.controller.Settings.{Settings}
 use Rattle.protocol.specs.declared.controller.Job.the-variants as job
 use Rattle.protocol.specs.declared.controller.Controller.{Controller}

@@ -1,7 +1,7 @@
 -- The course of a download from the line alone: what each request meets, and how it ends.
 use Prim.Native.Nat.{ℕ, zero, suc, _-_}
 use mathlib.Core.Bool.{Bool, true, false, not}
-use mathlib.Core.List.{List, [], _∷_}
+use mathlib.Core.List.{List, [], _∷_, _++_}
 use lib.ListN.{length, getD}
 use Rattle.octets.specs.Choice.{pick, _or_}
 use Rattle.fdl.specs.Writing.{confirmationBytes}
@@ -122,3 +122,8 @@ module _ (c : Settings) (boarding : Bool) (notYet : List ℕ) where
       (polled c (c .polls - 1) (getD notYet i 0) (not b) (leaves (c .repeats) l))
       (λ b′ l′. course (suc i) b′ ts l′))
       (endsWith (writeOf b t l ∷ []) (ending.NoAnswer (suc i)) (pick (oneArrives (writeOf b t l)) (unless (guarded boarding (t .slot)) t) []))
+
+-- lists in a row as one: a course has a list of requests for each template, and a request a list of sendings
+abbrev pub concat : {A : Type 0} → List (List A) → List A
+concat [] = []
+concat (a ∷ l) = a ++ concat l

@@ -101,3 +101,15 @@ module _ (Bad : List ℕ → Type 0) where
   abbrev pub Damage : List Passage → Type 0
   Damage [] = Unit {0}
   Damage (h ∷ l) = DamagedBy h × Damage l
+
+-- a line that loses what another damages
+abbrev pub lostFor : Passage → Passage
+lostFor through = through
+lostFor requestLost = requestLost
+lostFor replyLost = replyLost
+lostFor (requestDamaged bytes) = requestLost
+lostFor (replyDamaged bytes) = replyLost
+
+abbrev pub asLost : List Passage → List Passage
+asLost [] = []
+asLost (h ∷ l) = lostFor h ∷ asLost l

@@ -14,7 +14,7 @@ use Rattle.diagnosis.specs.Reading as diagnosis
 use Rattle.book.specs.Contents.{Entry}
 use Rattle.protocol.specs.Endings.{stopsAt}
 use Rattle.protocol.specs.Line as line
-use Rattle.protocol.specs.Line.{Passage, through, Sending, passageOf, restOf, go, stop, Damage}
+use Rattle.protocol.specs.Line.{Passage, through, Sending, passageOf, restOf, go, stop, Damage, asLost}
 use Rattle.protocol.specs.Slots.{slotIn, Sized, filled}
 use Rattle.protocol.specs.Printer.{Station}
 use Rattle.content.specs.declared.fields.Content.the-variants as content
@@ -22,12 +22,12 @@ use Rattle.protocol.specs.Telegrams.{openingCode, countedCode}
 use Rattle.protocol.specs.Controller.{askFor}
 use Rattle.protocol.specs.Download.{Given, Config, hears, steps, begin, after, sendings, bound, download, given, passagesOf, verdictOf, Whole, downloadOf}
 use Rattle.protocol.specs.Words.{anyOf, heard, answered, failed, requestsIn, byTemplate, templatesIn, requestsAt, writesHeard, writeIn, FramingRefuses, UntilAnswered}
-use Rattle.protocol.specs.Course.{Course, course}
+use Rattle.protocol.specs.Course.{Course, course, concat}
 use Rattle.protocol.specs.Demand.{At, NotRefused, Demand3, final, all, New, Old, writeHeard, Downloads}
 use Rattle.protocol.specs.Lemmas.Read.{opening-asked}
 use Rattle.protocol.specs.Lemmas.Replies.{Valid, valid}
-use Rattle.protocol.specs.Lemmas.Runs.{run-stop, run-keeps, transcript-add, transcript-stop, transcript-take, transcript-short, sent-counts, run-line, settles, damage-rest, asLost, damage-is-loss}
-use Rattle.protocol.specs.Lemmas.Groups.{concat, Apart, block-in, blocks-alone, Templates, templates-in, no-openings, Each, each-at}
+use Rattle.protocol.specs.Lemmas.Runs.{run-stop, run-keeps, transcript-add, transcript-stop, transcript-take, transcript-short, sent-counts, run-line, settles, damage-rest, damage-is-loss}
+use Rattle.protocol.specs.Lemmas.Groups.{Apart, block-in, blocks-alone, Templates, templates-in, no-openings, Each, each-at}
 use Rattle.protocol.specs.Lemmas.Chain.{apart-take, chain-ran, chain-sent, chain-counts}
 use Rattle.protocol.specs.Lemmas.Accepted.{unrefused, not-refused}
 use Rattle.protocol.specs.Lemmas.Hearing.{boarding-kept}
@@ -434,6 +434,11 @@ module _ (g : Given) (l : List Passage) (x : Station) (ok : NotRefused g l x) wh
   damage-is-as-loss =
       let e = damage-is-loss (ignores g) (bound g) (begin g l x) (ok .damage) in
       (ap (λ (y : Config). y .printer) e, ap (λ (y : Config). y .move) e, ap (λ (y : Config). y .sent) e)
+
+-- ---- the theorem, with all that it supposes in sight
+
+pub the-demand : (g : Given) (l : List Passage) (x : Station) → NotRefused g l x → Sized (x .slots) → Demand3 g l x
+the-demand g l x ok z = demand3 g l x ok z
 
 -- ---- the download over lent bytes
 

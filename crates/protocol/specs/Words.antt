@@ -170,6 +170,14 @@ replyOf [] = []
 replyOf (s ∷ []) = s .reply
 replyOf (s ∷ t ∷ r) = replyOf (t ∷ r)
 
+abbrev pub isNothing : Got → Bool
+isNothing nothing = true
+isNothing confirmation = false
+isNothing diagnosis = false
+isNothing (positive slot index len) = false
+isNothing (negative code1 code2) = false
+isNothing other = false
+
 abbrev pub isConfirmation : Got → Bool
 isConfirmation nothing = false
 isConfirmation confirmation = true

@@ -15,10 +15,10 @@ use Rattle.access.specs.Laws.{answersAt}
 use Rattle.access.specs.Route.{routeOf}
 use Rattle.content.specs.Fields.{serviceOf, fixedLength, ModeFits, IdentFits}
 use Rattle.content.specs.declared.fields.Content.{Content}
-use Rattle.service.specs.Lemmas.Again.{routeFor, holds-of}
-use Rattle.service.specs.Lemmas.Back.{wayBy, back, part-back}
+use Rattle.service.specs.Lemmas.Again.{holds-of}
+use Rattle.service.specs.Lemmas.Back.{back, part-back}
 use Rattle.service.specs.Reading.{readOf}
-use Rattle.service.specs.Writing.{headerFor, telegramFor, verdictOf}
+use Rattle.service.specs.Writing.{headerFor, telegramFor, verdictOf, routeFor, wayBy}
 use Rattle.service.specs.declared.reading.Way.{Way}
 use Rattle.service.specs.declared.reading.Way.the-variants as way
 use Rattle.service.specs.declared.reading.Reading.the-variants.{Service}

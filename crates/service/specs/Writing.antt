@@ -9,9 +9,10 @@ use Rattle.octets.specs.declared.Written.the-variants.{Stored, Refused}
 use Rattle.fdl.specs.Writing as telegram
 use Rattle.fdl.specs.declared.telegram.Format.{Format}
 use Rattle.fdl.specs.declared.telegram.Header.{Header}
-use Rattle.access.specs.Route.{routeOf, headerOf}
+use Rattle.access.specs.Route.{answerFrom, routeOf, headerOf}
 use Rattle.access.specs.declared.route.Route.{Route}
 use Rattle.access.specs.declared.route.Route.the-variants as route
+use Rattle.access.specs.declared.table.Service.{Service}
 use Rattle.content.specs.Fields.{serviceOf}
 use Rattle.content.specs.Writing.{bytesFor, callVerdict, answerVerdict}
 use Rattle.content.specs.declared.fields.Content.{Content}
@@ -24,6 +25,17 @@ headerFor da sa fc c = headerOf (serviceOf c) da sa fc
 
 unfoldable pub telegramFor : Format → (da sa fc : ℕ) → Content → (part : List ℕ) → List ℕ
 telegramFor f da sa fc c part = telegram.telegramOf f (headerFor da sa fc c) (bytesFor c part)
+
+-- the route of a service on its way
+abbrev pub routeFor : Way → Service → Route
+routeFor way.Call s = route.Call s
+routeFor way.Answer s = answerFrom s
+
+-- the way of a route that leads somewhere
+abbrev pub wayBy : Route → Way
+wayBy (route.Call s) = way.Call
+wayBy (route.Answer a) = way.Answer
+wayBy route.Nowhere = way.Call
 
 -- the verdict on the data, by the way
 abbrev pub wayVerdict : Way → Content → (part : List ℕ) → Verdict

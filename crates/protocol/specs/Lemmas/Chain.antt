@@ -11,10 +11,11 @@ use lib.Seq.{take-append-le, take-append-add, take-length}
 use Rattle.octets.specs.Choice.{pick, _and_}
 use Rattle.protocol.specs.Line as line
 use Rattle.protocol.specs.Line.{Sending}
+use Rattle.protocol.specs.Course.{concat}
 use Rattle.protocol.specs.Download.{Given, Config, hears, steps}
 use Rattle.protocol.specs.Words.{anyOf, countOf, heard, isWrite, requestsIn, writesHeard}
 use Rattle.protocol.specs.Lemmas.Runs.{run-add, transcript-add}
-use Rattle.protocol.specs.Lemmas.Groups.{concat, Apart, Block, Blocks, block-in}
+use Rattle.protocol.specs.Lemmas.Groups.{Apart, Block, Blocks, block-in}
 
 pub apart-take : (q : List ℕ) (v : ℕ) (l : List Sending) → Apart q l → Apart q (take v l)
 apart-take q zero l h = tt

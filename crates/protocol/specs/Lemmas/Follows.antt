@@ -21,11 +21,10 @@ use Rattle.protocol.specs.Printer.{write, poll, counted, receivedOf, jud
 use Rattle.protocol.specs.Controller.{Move, askFor, settled, afterPoll}
 use Rattle.protocol.specs.Download.{Given, Config}
 use Rattle.protocol.specs.Words.{arrives, asked, isWriteAsk, guarded, FramingRefuses}
-use Rattle.protocol.specs.Course.{isThrough, exchange, meets, leaves, oneArrives, Polled, ready, late, silent, polls, polled, Course, unless, outcomeOf, endsWith, after, afterPolls, writeOf, resultOf, course}
+use Rattle.protocol.specs.Course.{isThrough, exchange, meets, leaves, oneArrives, Polled, ready, late, silent, polls, polled, Course, unless, outcomeOf, endsWith, after, afterPolls, writeOf, resultOf, course, concat}
 use Rattle.protocol.specs.Lemmas.Read.{write-received, write-names, write-asked, poll-received, poll-names, poll-asked}
 use Rattle.protocol.specs.Lemmas.Replies.{gotOutcome, got-confirmation, got-outcome}
 use Rattle.protocol.specs.Lemmas.Runs.{at, damage-left}
-use Rattle.protocol.specs.Lemmas.Groups.{concat}
 use Rattle.protocol.specs.Lemmas.Chain.{Link, Chain, end, link, chain-append}
 use Rattle.protocol.specs.Lemmas.Ours.{stand, New, next-new, asked-for}
 use Rattle.protocol.specs.declared.controller.Ending.the-variants as ending

@@ -9,7 +9,7 @@ use lib.ListN.{length, getD, take}
 use Rattle.octets.specs.Choice.{_or_, by-pick, never}
 use Rattle.protocol.specs.Line.{Passage, Sending, passageOf, restOf}
 use Rattle.protocol.specs.Printer.{Ask, slaveDiag, write, poll, unknown, undecodable}
-use Rattle.protocol.specs.Course.{isThrough, exchange}
+use Rattle.protocol.specs.Course.{isThrough, exchange, concat}
 use Rattle.protocol.specs.Words.{anyOf, sameBytes, joined, requestsIn, isWriteAsk, isOpeningAsk, askedIn, isWrite, isOpening, firstIsWrite, byTemplate}
 
 -- ---- tests over two lists in a row
@@ -22,10 +22,6 @@ module _ {A : Type 0} (t : A → Bool) where
   pub any-append : (a b : List A) → anyOf t (a ++ b) ≡ (anyOf t a or anyOf t b)
   any-append [] b = refl
   any-append (x ∷ a) b = rw (any-append a b) (or-or (t x) (anyOf t a) (anyOf t b))
-
-abbrev pub concat : {A : Type 0} → List (List A) → List A
-concat [] = []
-concat (a ∷ l) = a ++ concat l
 
 pub concat-append : {A : Type 0} (l m : List (List A)) → concat (l ++ m) ≡ concat l ++ concat m
 concat-append [] m = refl

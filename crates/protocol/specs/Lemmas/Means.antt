@@ -23,10 +23,10 @@ use Rattle.protocol.specs.Line.{Passage, Sending, Damage}
 use Rattle.protocol.specs.Telegrams.{writeBytes, answerOf, replyCode}
 use Rattle.protocol.specs.Controller.{gotIn}
 use Rattle.protocol.specs.Words.{anyOf, countOf, failed, pollsIn, isConfirmation, isNegative, gotConfirmation, gotNegative, guarded, FramingRefuses, UntilAnswered}
-use Rattle.protocol.specs.Course.{meets, leaves, oneArrives, Polled, ready, late, silent, polls, polled, Course, unless, outcomeOf, endsWith, after, afterPolls, writeOf, resultOf, course}
+use Rattle.protocol.specs.Course.{meets, leaves, oneArrives, Polled, ready, late, silent, polls, polled, Course, unless, outcomeOf, endsWith, after, afterPolls, writeOf, resultOf, course, concat}
 use Rattle.protocol.specs.Demand.{allReady}
 use Rattle.protocol.specs.Lemmas.Runs.{damage-left}
-use Rattle.protocol.specs.Lemmas.Groups.{concat, any-append, Each, each-append}
+use Rattle.protocol.specs.Lemmas.Groups.{any-append, Each, each-append}
 use Rattle.protocol.specs.Lemmas.Follows.{outcome-taken}
 use Rattle.protocol.specs.Lemmas.Read.{write-names, outcome-fine, telegram-read}
 use Rattle.protocol.specs.Lemmas.Replies.{gotOutcome, got-outcome}

@@ -9,7 +9,7 @@ use mathlib.Core.Path.{_≡_, refl, sym, ap, _∙_}
 use lib.ListN.{length, take, drop}
 use lib.Seq.{drop-nil}
 use Rattle.octets.specs.Choice.{pick, _or_, by-pick, never}
-use Rattle.protocol.specs.Line.{Passage, through, requestLost, replyLost, requestDamaged, replyDamaged, Answered, Move, go, stop, Config, Sending, passageOf, restOf, printerAfter, replyAfter, nextBy, next, run, transcript, DamagedBy, Damage}
+use Rattle.protocol.specs.Line.{Passage, through, requestLost, replyLost, requestDamaged, replyDamaged, Answered, Move, go, stop, Config, Sending, passageOf, restOf, printerAfter, replyAfter, nextBy, next, run, transcript, DamagedBy, Damage, asLost}
 use Rattle.protocol.specs.Course.{isThrough, replyBy, sendingOf, exchange, meets, leaves, oneArrives}
 use Rattle.protocol.specs.Words.{arrives}
 
@@ -181,17 +181,6 @@ pub record Ignores {P O E : Type 0} (hear : P → List ℕ → Answered P) (step
   pub blind : (o : O) (s : List ℕ) → Bad s → step o s ≡ step o []
 
 -- so that they are as good as lost
-abbrev pub lostFor : Passage → Passage
-lostFor through = through
-lostFor requestLost = requestLost
-lostFor replyLost = replyLost
-lostFor (requestDamaged bytes) = requestLost
-lostFor (replyDamaged bytes) = replyLost
-
-abbrev pub asLost : List Passage → List Passage
-asLost [] = []
-asLost (h ∷ l) = lostFor h ∷ asLost l
-
 abbrev pub withLosses : {P O E : Type 0} → Config P O E → Config P O E
 withLosses x = at (asLost (x .line)) (x .printer) (x .move) (x .sent)
 

@@ -18,10 +18,10 @@ use Rattle.protocol.specs.Line.{Passage, Sending}
 use Rattle.protocol.specs.Telegrams.{carrying, countedCode, writeBytes, pollBytes}
 use Rattle.protocol.specs.Printer.{poll}
 use Rattle.protocol.specs.Words.{sameBytes, askedIn, isWrite, isWriteAsk}
-use Rattle.protocol.specs.Course.{exchange, meets, leaves, Polled, ready, late, silent, polls, polled, resultOf, course}
+use Rattle.protocol.specs.Course.{exchange, meets, leaves, Polled, ready, late, silent, polls, polled, resultOf, course, concat}
 use Rattle.protocol.specs.Lemmas.Read.{write-asked, poll-asked}
 use Rattle.protocol.specs.Lemmas.Runs.{exchange-short}
-use Rattle.protocol.specs.Lemmas.Groups.{concat, concat-append, AllOf, Apart, apart-all, apart-append, exchange-all, Blocks, Polls, Templates}
+use Rattle.protocol.specs.Lemmas.Groups.{concat-append, AllOf, Apart, apart-all, apart-append, exchange-all, Blocks, Polls, Templates}
 use Rattle.protocol.specs.Lemmas.Meets.{first-asks}
 use Rattle.protocol.specs.Lemmas.Means.{by-ways, wrote, polledAs, requests}
 use Rattle.protocol.specs.declared.controller.Settings.{Settings}

@@ -20,6 +20,7 @@ use Rattle.book.specs.Contents.{Entry}
 use Rattle.protocol.specs.Endings.{isDone}
 use Rattle.protocol.specs.Line.{go, stop}
 use Rattle.protocol.specs.Telegrams.{replyCode, openingBytes}
+use Rattle.protocol.specs.Words.{isNothing}
 use Rattle.protocol.specs.Lemmas.Ours.{got-bad}
 use Rattle.protocol.specs.Lemmas.Replies.{got-nothing}
 use Rattle.protocol.specs.Controller.{Got, nothing, confirmation, diagnosis, positive, negative, other, isSd2, isPrinters, gotFrom, gotIn, Move, requestBytes, askFor, settled, again, afterJob, moveBy, moveOf}
@@ -247,14 +248,6 @@ module _ (c : Settings) where
   pub first-fcb : (book : List Entry) (s : List ℕ) → Begins c book (gotIn c s) (moveOf c book controller.Opening s)
   unfolding moveOf
   first-fcb book s = by-got book (gotIn c s)
-
-abbrev pub isNothing : Got → Bool
-isNothing nothing = true
-isNothing confirmation = false
-isNothing diagnosis = false
-isNothing (positive slot index len) = false
-isNothing (negative code1 code2) = false
-isNothing other = false
 
 -- what may follow a request by what was got: itself once more, a new request, or the end
 pub data Follows (c : Settings) (k : ℕ) (j : Job) (fcb : Bool) (r : ℕ) (g : Got) : Move → Type 0 where

@@ -34,16 +34,11 @@ use Rattle.content.specs.declared.reading.UserData.{UserData}
 use Rattle.content.specs.declared.reading.UserData.the-variants as user-data
 use Rattle.service.specs.Lemmas.Parts.{part-within, part-bytes}
 use Rattle.service.specs.Reading.{placedAt, routedBy, serviceIn, readOf}
-use Rattle.service.specs.Writing.{telegramFor, routeVerdict, verdictOf}
+use Rattle.service.specs.Writing.{telegramFor, routeVerdict, verdictOf, routeFor}
 use Rattle.service.specs.declared.reading.Way.{Way}
 use Rattle.service.specs.declared.reading.Way.the-variants as way
 use Rattle.service.specs.declared.reading.Reading.{Reading}
 use Rattle.service.specs.declared.reading.Reading.the-variants as reading
-
--- the route of a service on its way
-abbrev pub routeFor : Way → Service → Route
-routeFor way.Call s = route.Call s
-routeFor way.Answer s = answerFrom s
 
 -- the access points from which a service may come on its way
 abbrev pub ComesFrom : Way → Header → Type 0

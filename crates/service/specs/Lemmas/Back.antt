@@ -31,7 +31,7 @@ use Rattle.content.specs.Writing.{bytesFor}
 use Rattle.content.specs.declared.fields.Content.{Content}
 use Rattle.service.specs.Lemmas.Parts.{part-within}
 use Rattle.service.specs.Reading.{placedAt, routedBy, serviceIn, readOf}
-use Rattle.service.specs.Writing.{headerFor, telegramFor, routeVerdict, verdictOf}
+use Rattle.service.specs.Writing.{headerFor, telegramFor, routeVerdict, verdictOf, wayBy}
 use Rattle.service.specs.declared.reading.Way.{Way}
 use Rattle.service.specs.declared.reading.Way.the-variants as way
 use Rattle.service.specs.declared.reading.Reading.the-variants as reading
@@ -40,12 +40,6 @@ use Rattle.service.specs.declared.reading.Reading.the-variants as readin
 both-fine : (v w : Verdict) → judged fault v w ≡ fine → (v ≡ fine) × (w ≡ fine)
 both-fine fine w e = (refl, e)
 both-fine (fault k) w e = absurd (fault-fine e)
-
--- the way of a route that leads somewhere
-abbrev pub wayBy : Route → Way
-wayBy (route.Call s) = way.Call
-wayBy (route.Answer a) = way.Answer
-wayBy route.Nowhere = way.Call
 
 abbrev userOf : Contents → List ℕ
 userOf nothing = []

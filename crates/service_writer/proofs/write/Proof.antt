@@ -23,9 +23,8 @@ use Rattle.content.specs.Fields.{fixedLength}
 use Rattle.content.specs.Laws.{bytes-long}
 use Rattle.content.specs.Writing.{bytesFor}
 use Rattle.content.specs.declared.fields.Content.{Content}
-use Rattle.service.specs.Writing.{headerFor, wayVerdict, routeVerdict, verdictOf, telegramFor}
+use Rattle.service.specs.Writing.{wayBy, headerFor, wayVerdict, routeVerdict, verdictOf, telegramFor}
 use Rattle.service.specs.declared.reading.Way.{Way}
-use Rattle.service.specs.Lemmas.Back.{wayBy}
 use Rattle.service.specs.Lemmas.Verdict.{bad-fields, good-fields}
 use borrow.Author.Needs.{needs}
 use Rattle.service_writer.proofs.write.Statement.{statement}
