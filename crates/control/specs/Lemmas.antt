@@ -4,15 +4,14 @@ use mathlib.Core.Path.{_≡_, sym, ap, _∙_}
 use mathlib.Core.Bool.{not}
 use mathlib.Core.List.{List}
 use native.Mathlib.Omega.{arith}
-use lib.ListN.{length, getD, length-append}
+use lib.ListN.{length, length-append}
 use lib.Dec.{eqb}
 use borrow.Author.Tests.{eqb-true, not-false}
-use Rattle.octets.specs.Choice.{pick}
 use Rattle.octets.specs.Elements.{part-elements}
 use Rattle.octets.specs.Part.{partOf}
-use Rattle.octets.specs.Front.{fine, fault}
+use Rattle.octets.specs.Front.{fine}
 use Rattle.octets.specs.Fixed.{judged, by-verdict, passed, part-long, part-tiles}
-use Rattle.control.specs.Command.{goodCommand, verdictOf, refused, fieldsIn, readOf, fixedBytes, bytesFor, verdictFor}
+use Rattle.control.specs.Command.{verdictOf, refused, fieldsIn, readOf, fixedBytes, bytesFor, verdictFor}
 use Rattle.control.specs.declared.command.GlobalCommand.{GlobalCommand}
 use Rattle.control.specs.declared.command.CommandReading.{CommandReading}
 use Rattle.control.specs.declared.command.CommandReading.the-variants.{Command, Refused}
@@ -33,7 +32,7 @@ module _ (s : List ℕ) where
     long : 2 ≤ length s
     unfolding verdictOf
     long =
-        let two : length s ≡ 2 = eqb-true _ _ (not-false _ (passed 20 (not (eqb (length s) 2)) (pick (not (goodCommand (getD s 0 0))) (fault 21) fine) good .0)) in
+        let two : length s ≡ 2 = eqb-true _ _ (not-false _ (passed 20 (not (eqb (length s) 2)) _ good .0)) in
         omega arith
 
     taken : verdictFor (fieldsIn s) (partOf s 2 (length s - 2)) ≡ fine

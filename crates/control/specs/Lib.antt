@@ -2,3 +2,4 @@ pub mod Command
 pub mod Lemmas
 pub mod Laws
 pub mod Refusals
+pub mod Accepted
