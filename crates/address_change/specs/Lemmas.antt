@@ -5,14 +5,13 @@ use mathlib.Core.Bool.{not}
 use mathlib.Core.List.{List, [], _∷_, _++_}
 use native.Mathlib.Omega.{arith}
 use lib.ListN.{length, getD, length-append}
-use lib.Dec.{eqb, ltb}
+use lib.Dec.{eqb}
 use borrow.Author.Tests.{eqb-true, not-false}
-use Rattle.octets.specs.Choice.{pick}
 use Rattle.octets.specs.Bytes.{Bytes}
 use Rattle.octets.specs.Elements.{part-elements}
 use Rattle.octets.specs.Number.{number-bytes}
 use Rattle.octets.specs.Part.{partOf}
-use Rattle.octets.specs.Front.{fine, fault}
+use Rattle.octets.specs.Front.{fine}
 use Rattle.octets.specs.Fixed.{judged, by-verdict, passed, number-again, part-long, part-tiles}
 use Rattle.address_change.specs.Address.{verdictOf, refused, fieldsIn, readOf, fixedBytes, bytesFor, verdictFor}
 use Rattle.address_change.specs.declared.AddressChange.{AddressChange}
@@ -44,7 +43,7 @@ module _ (s : List ℕ) (bytes : Bytes s) where
     long : 4 ≤ length s
     unfolding verdictOf
     long =
-        let four : length s ≡ 4 = eqb-true _ _ (not-false _ (passed 20 (not (eqb (length s) 4)) (pick (ltb 125 (getD s 0 0)) (fault 21) (pick (ltb 1 (getD s 3 0)) (fault 21) fine)) good .0)) in
+        let four : length s ≡ 4 = eqb-true _ _ (not-false _ (passed 20 (not (eqb (length s) 4)) _ good .0)) in
         omega arith
 
     taken : verdictFor (fieldsIn s) (partOf s 4 (length s - 4)) ≡ fine
