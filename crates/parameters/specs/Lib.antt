@@ -5,3 +5,4 @@ pub mod Timing
 pub mod Lemmas
 pub mod Laws
 pub mod Refusals
+pub mod Accepted
