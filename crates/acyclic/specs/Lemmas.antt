@@ -3,3 +3,4 @@ pub mod Again
 pub mod Calls
 pub mod Answers
 pub mod Small
+pub mod Bytes

@@ -3,6 +3,8 @@ pub mod Errors
 pub mod Forms
 pub mod Calls
 pub mod Answers
+pub mod Bytes
 pub mod Lemmas
 pub mod Laws
 pub mod Refusals
+pub mod Accepted

@@ -48,5 +48,10 @@ pub and-right : (a b : Bool) → (a and b) ≡ true → b ≡ true
 and-right true b e = e
 and-right false b e = cc
 
+-- what follows from either of two tests follows where one of them holds
+pub by-or : {A : Type 0} (a b : Bool) → (a or b) ≡ true → (a ≡ true → A) → (b ≡ true → A) → A
+by-or true b e f g = f refl
+by-or false b e f g = g e
+
 pub never : false ≡ true → ⊥
 never e = let z : _≡_ {A = ℕ} 0 1 = cc in omega arith

@@ -8,7 +8,7 @@ use native.Mathlib.Omega.{arith}
 use lib.ListN.{length, getD}
 use lib.Dec.{eqb, leb}
 use borrow.Author.Tests.{eqb-true, eqb-false, leb-true, not-true, not-false}
-use Rattle.octets.specs.Choice.{_or_, never, by-pick, and-left, and-right}
+use Rattle.octets.specs.Choice.{never, by-pick, and-left, and-right, by-or}
 use Rattle.typed.specs.Value.{Kind, kindOf, widthIn, widthOf}
 use Rattle.typed.specs.Reading.{goodCode, goodBoolean, readOf}
 use Rattle.typed.specs.declared.reading.Reading.{Reading}
@@ -30,11 +30,6 @@ pub data ValueBytes (s : List ℕ) : Type 0 where
   unsigned-32 : getD s 0 0 ≡ 7 → length s ≡ 5 → ValueBytes s
   floating-point : getD s 0 0 ≡ 8 → length s ≡ 5 → ValueBytes s
 
--- what a test that holds says: the one side, or the other
-by-either : {A : Type 0} (a b : Bool) → (a or b) ≡ true → (a ≡ true → A) → (b ≡ true → A) → A
-by-either true b e f g = f refl
-by-either false b e f g = g e
-
 -- a number from k on that is not k
 above : (k c : ℕ) → k ≤ c → eqb c k ≡ false → suc k ≤ c
 above k c h e = let n : c ≡ k → ⊥ = eqb-false c k e in omega arith
@@ -49,7 +44,7 @@ module _ (s : List ℕ) where
   by-boolean : goodBoolean (getD s 0 0) (getD s 1 0) ≡ true → getD s 0 0 ≡ 1 → length s ≡ 2 → ValueBytes s
   by-boolean t c l =
       let x : ℕ = getD s 1 0 in
-      by-either (eqb x 0) (eqb x 255) (simp c at t) (λ e. boolean-false c l (eqb-true x 0 e)) (λ e. boolean-true c l (eqb-true x 255 e))
+      by-or (eqb x 0) (eqb x 255) (simp c at t) (λ e. boolean-false c l (eqb-true x 0 e)) (λ e. boolean-true c l (eqb-true x 255 e))
 
   -- a code of 1..8, the length of its kind, and the byte of a Boolean
   by-code : goodCode (getD s 0 0) ≡ true → goodBoolean (getD s 0 0) (getD s 1 0) ≡ true → Long (kindOf (getD s 0 0))
