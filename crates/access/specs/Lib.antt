@@ -1,3 +1,5 @@
 pub mod Table
 pub mod Route
 pub mod Laws
+pub mod Headers
+pub mod Routed
