@@ -6,3 +6,4 @@ pub mod Reads
 pub mod Back
 pub mod Written
 pub mod Again
+pub mod Map

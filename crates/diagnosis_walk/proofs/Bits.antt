@@ -13,6 +13,7 @@ use lib.Count.{ones, ones-step, onesIn, under, trailingZeros}
 use borrow.Author.Tests.{eq-eqb, ne-eqb, eqb-true, eqb-false}
 use Rattle.octets.specs.Choice.{pick}
 use Rattle.diagnosis.specs.Map.{reports, countFrom, lowestFrom}
+use Rattle.diagnosis.specs.Lemmas.Map.{bit}
 use Rattle.diagnosis.specs.declared.map.Lowest.the-variants.{Module}
 
 -- the d numbers from k on pass a test as the d lowest bits of x are set
@@ -40,15 +41,6 @@ ones-in zero x h = let z : x ≡ 0 = omega arith in ap ones z
 ones-in (suc d) x h =
     let b : x / 2 < 2 ^ d = omega (arith, rw (pow-suc 2 d) at h) in
     ones-step x ∙ ap (λ (n : ℕ). x % 2 + n) (ones-in d (x / 2) b)
-
--- a test of a bit, as a number
-bit : (x : ℕ) → pick (eqb (x % 2) 1) 1 0 ≡ x % 2
-bit x = odd (x % 2) (omega arith)
-  where
-    odd : (r : ℕ) → r < 2 → pick (eqb r 1) 1 0 ≡ r
-    odd zero h = refl
-    odd (suc zero) h = refl
-    odd (suc (suc r)) h = absurd (omega arith)
 
 module _ (test : ℕ → Bool) where
   count-bits : (d k x n : ℕ) → Bits test k d x → countFrom test k (d + n) ≡ onesIn d x + countFrom test (k + d) n

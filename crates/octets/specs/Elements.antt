@@ -23,3 +23,9 @@ pub rest-elements : (k i : ℕ) (s : List ℕ) → i + k ≡ length s → drop i
 rest-elements k i s h =
     let g : length (drop i s) ≤ k = omega (arith, length-drop i s) in
     sym (take-all k (drop i s) g) ∙ part-elements k i s (omega arith)
+
+-- past the end stands a 0
+pub getD-past : (l : List ℕ) (i : ℕ) → length l ≤ i → getD l i 0 ≡ 0
+getD-past [] i h = refl
+getD-past (x ∷ l) zero h = absurd (omega arith)
+getD-past (x ∷ l) (suc i) h = getD-past l i (omega arith)
