@@ -7,3 +7,4 @@ pub mod Back
 pub mod Written
 pub mod Again
 pub mod Map
+pub mod Bytes
