@@ -6,3 +6,4 @@ pub mod Again
 pub mod One
 pub mod All
 pub mod Sums
+pub mod Bytes
