@@ -6,3 +6,4 @@ pub mod Contents
 pub mod Lemmas
 pub mod Laws
 pub mod Refusals
+pub mod Accepted
