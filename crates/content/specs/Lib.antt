@@ -4,3 +4,4 @@ pub mod Writing
 pub mod Lemmas
 pub mod Laws
 pub mod Refusals
+pub mod Accepted
