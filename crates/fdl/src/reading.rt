@@ -22,8 +22,8 @@ pub enum Reading {
     Refused(Refusal),
 }
 
-// A reading, with the class of a telegram's function code: reading has to look it up, and who goes on by it
-// has it here, so that the table is not searched again.
+// A reading, with the class of a telegram's function code. Reading has to look it up, to refuse what is reserved; who
+// goes on by the class has it from here, because each look-up costs the building of the table in the frame.
 pub enum Classed {
     Confirmation,
     Token {
