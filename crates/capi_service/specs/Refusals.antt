@@ -67,7 +67,7 @@ kind-numbered kind.Token n fields part = refl
 kind-numbered (kind.Telegram f) n fields part = simp (through numbered, alike, named-numbered)
 kind-numbered kind.Unknown n fields part = refl
 
-fields-numbered : (fields : List ℕ) (version : ℕ) (part : List ℕ) → numbered (fields-of.verdictIn fields version part) ≡ true
+pub fields-numbered : (fields : List ℕ) (version : ℕ) (part : List ℕ) → numbered (fields-of.verdictIn fields version part) ≡ true
 unfolding listed
 fields-numbered fields version part = simp (through numbered, alike, kind-numbered)
 

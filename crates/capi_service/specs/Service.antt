@@ -2,13 +2,12 @@
 -- length of the part, and then ten of the service's own: the fixed bytes of its data in their order, and 0 behind them.
 use Prim.Native.Nat.{ℕ, _+_}
 use mathlib.Core.Bool.{Bool}
-use mathlib.Core.List.{List, [], _∷_}
+use mathlib.Core.List.{List, []}
 use lib.ListN.{length, getD}
-use lib.Dec.{eqb, ltb}
+use lib.Dec.{ltb}
 use Rattle.octets.specs.Choice.{pick}
+use Rattle.octets.specs.Part.{partOf}
 use Rattle.octets.specs.Front.{Verdict, fault, answerBy, heldBy}
-use Rattle.octets.specs.declared.Mode.{Mode}
-use Rattle.octets.specs.declared.Mode.the-variants as mode
 use Rattle.octets.specs.declared.Written.{Written}
 use Rattle.fdl.specs.Around.{goodFields}
 use Rattle.fdl.specs.declared.telegram.Format.{Format}
@@ -27,7 +26,7 @@ use Rattle.service.specs.declared.reading.Way.the-variants as way
 use Rattle.service.specs.declared.reading.Reading.{Reading}
 use Rattle.service.specs.declared.reading.Reading.the-variants as reading
 use Rattle.fields.specs.Kinds.{formatNumber, kindOf}
-use Rattle.service_fields.specs.Service.{serviceNumber, placesOf, contentBytes, rightWay, contentIn}
+use Rattle.service_fields.specs.Service.{fieldsWith, rightWay, modeOf, contentIn}
 use Rattle.service_fields.specs.declared.Named.{Named}
 use Rattle.service_fields.specs.declared.Named.the-variants as named
 use Rattle.fields.specs.declared.kinds.Kind.{Kind}
@@ -39,15 +38,10 @@ abbrev pub wayNumber : Way → ℕ
 wayNumber way.Call = 0
 wayNumber way.Answer = 1
 
--- the version of a number that is 0 or 1
-abbrev pub modeOf : (version : ℕ) → Mode
-modeOf version = pick (eqb version 0) mode.Dpv0 mode.Dpv1
-
 -- ---- reading
 
 abbrev pub fieldsOf : Format → Header → Way → Content → (start len : ℕ) → List ℕ
-fieldsOf f h w c start len =
-    serviceNumber (serviceOf c) ∷ wayNumber w ∷ formatNumber f ∷ h .da ∷ h .sa ∷ h .fc ∷ start ∷ len ∷ placesOf 10 (contentBytes c)
+fieldsOf f h w c start len = fieldsWith (wayNumber w) (formatNumber f) (h .da) (h .sa) (h .fc) start len c
 
 -- an unknown version comes before all else
 abbrev pub readIn : List ℕ → (version : ℕ) → Reading
@@ -119,3 +113,8 @@ answerOf fields version part room = answerBy (verdictIn fields version part) (by
 
 abbrev pub heldOf : (fields : List ℕ) (version : ℕ) (part out : List ℕ) → List ℕ
 heldOf fields version part out = heldBy (verdictIn fields version part) (bytesIn fields version part) out
+
+-- ---- the part that fields name in the bytes s
+
+abbrev pub partIn : (s fields : List ℕ) → List ℕ
+partIn s fields = partOf s (getD fields 6 0) (getD fields 7 0)

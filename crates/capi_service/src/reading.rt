@@ -1,6 +1,7 @@
 // Service telegrams through the C interface: reading one into eighteen fields.
 ghost use mathlib.Core.Path.{_≡_};
-ghost use Rattle.capi_service.specs.Service.{wayNumber, fieldsOf, modeOf, readIn, refusalOf, fieldsAfter};
+ghost use Rattle.service_fields.specs.Service.{modeOf};
+ghost use Rattle.capi_service.specs.Service.{wayNumber, fieldsOf, readIn, refusalOf, fieldsAfter};
 use content::Content;
 use fdl::Format;
 use fields::format_number;

@@ -99,3 +99,11 @@ IdentFits content.SlaveDiagCall = Unit
 IdentFits (content.SlaveDiag h) = h .ident < 65536
 IdentFits (content.SetPrm f) = f .ident < 65536
 IdentFits content.ChkCfg = Unit
+
+-- both
+abbrev pub Fits : Content → Mode → Type 0
+Fits c m = ModeFits c m × IdentFits c
+
+-- in every version
+abbrev pub FitsEvery : Content → Type 0
+FitsEvery c = (m : Mode) → Fits c m

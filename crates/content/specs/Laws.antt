@@ -10,7 +10,7 @@ use Rattle.octets.specs.declared.Mode.{Mode}
 use Rattle.access.specs.Laws.{answererOf}
 use Rattle.access.specs.declared.table.Service.{Service}
 use Rattle.access.specs.declared.route.Answering.{Answering}
-use Rattle.content.specs.Fields.{serviceOf, fixedLength, ModeFits, IdentFits}
+use Rattle.content.specs.Fields.{serviceOf, fixedLength, ModeFits, IdentFits, Fits, FitsEvery}
 use Rattle.content.specs.Reading.{endOf, callOf, answerOf}
 use Rattle.content.specs.Writing.{bytesFor, callVerdict, answerVerdict}
 use Rattle.content.specs.Lemmas.Again.{Again, Holds, call-again, answer-again}
@@ -44,13 +44,14 @@ module _ (c : Content) (part : List ℕ) where
 -- ---- what is read
 
 module _ (u : List ℕ) (bytes : Bytes u) {c : Content} {start len : ℕ} where
-  -- (b) What is read is of the service and in the version that it was read in, may be written, and gives the same bytes again.
-  pub call-writes-back : (s : Service) (m : Mode) → callOf s u m ≡ Is c start len → Again callVerdict (λ x. ModeFits x m) s u c start len
-  call-writes-back s m e = subst (Holds (Again callVerdict (λ x. ModeFits x m) s u)) e (call-again u bytes m s)
+  -- (b) What is read is of the service and in the version that it was read in, may be written, and gives the same bytes again. Its ident
+  -- number has two bytes.
+  pub call-writes-back : (s : Service) (m : Mode) → callOf s u m ≡ Is c start len → Again callVerdict (λ x. Fits x m) s u c start len
+  call-writes-back s m e = subst (Holds (Again callVerdict (λ x. Fits x m) s u)) e (call-again u bytes m s)
 
-  -- (b), of answers, which are of no version
-  pub answer-writes-back : (a : Answering) → answerOf a u ≡ Is c start len → Again answerVerdict (λ _. Unit) (answererOf a) u c start len
-  answer-writes-back a e = subst (Holds (Again answerVerdict (λ _. Unit) (answererOf a) u)) e (answer-again u bytes a)
+  -- (b), of answers, which are of every version
+  pub answer-writes-back : (a : Answering) → answerOf a u ≡ Is c start len → Again answerVerdict FitsEvery (answererOf a) u c start len
+  answer-writes-back a e = subst (Holds (Again answerVerdict FitsEvery (answererOf a) u)) e (answer-again u bytes a)
 
 -- The part lies inside the user data.
 pub call-inside : (s : Service) (u : List ℕ) (m : Mode) → endOf (callOf s u m) ≤ length u

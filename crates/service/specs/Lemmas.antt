@@ -3,3 +3,5 @@ pub mod Placed
 pub mod Verdict
 pub mod Back
 pub mod Again
+pub mod Changed
+pub mod Ways

@@ -1,6 +1,7 @@
 -- Reading a whole telegram as a service (document 01, "Refusal numbers" and "Services by access point"): the telegram's own
 -- refusal, then 10, then what the service's format says of the user data.
 use Prim.Native.Nat.{ℕ, _+_}
+use mathlib.Core.Bool.{Bool, true, false}
 use mathlib.Core.List.{List}
 use Rattle.octets.specs.Part.{partOf}
 use Rattle.octets.specs.declared.Mode.{Mode}
@@ -42,3 +43,16 @@ serviceIn s m (telegram-reading.Refused r) = reading.Refused r
 
 unfoldable pub readOf : List ℕ → Mode → Reading
 readOf s m = serviceIn s m (telegram.readOf s)
+
+abbrev pub accepted : Reading → Bool
+accepted (reading.Service f h w c start len) = true
+accepted (reading.Refused r) = false
+
+-- does the route go this way
+abbrev pub goes : Way → Route → Bool
+goes way.Call (route.Call s) = true
+goes way.Call (route.Answer a) = false
+goes way.Call route.Nowhere = false
+goes way.Answer (route.Call s) = false
+goes way.Answer (route.Answer a) = true
+goes way.Answer route.Nowhere = false

@@ -2,12 +2,15 @@
 -- its data in their order, and 0 behind them. Fields that are to be written are eighteen: FC is the sixth, and the service's own are
 -- the last ten.
 use Prim.Native.Nat.{ℕ}
+use mathlib.Core.Path.{_≡_}
 use mathlib.Core.Bool.{Bool, true, false}
 use mathlib.Core.List.{List, [], _∷_, _++_}
 use lib.ListN.{getD, take, replicate}
 use lib.Dec.{eqb, ltb}
 use Rattle.octets.specs.Choice.{pick}
 use Rattle.octets.specs.Number.{numberOf}
+use Rattle.octets.specs.declared.Mode.{Mode}
+use Rattle.octets.specs.declared.Mode.the-variants as mode
 use Rattle.function_code.specs.Code.{classOf}
 use Rattle.function_code.specs.declared.code.Class.{Class}
 use Rattle.function_code.specs.declared.code.Class.the-variants as class
@@ -26,7 +29,7 @@ use Rattle.access.specs.declared.table.Service.the-variants as service
 use Rattle.content.specs.Fields.{serviceOf}
 use Rattle.content.specs.declared.fields.Content.{Content}
 use Rattle.content.specs.declared.fields.Content.the-variants as content
-use Rattle.acyclic_fields.specs.Four.{callFour, answerFour, callNamed, answerNamed}
+use Rattle.acyclic_fields.specs.Four.{callFour, answerFour, callNamed, answerNamed, callPlaces, answerPlaces}
 use Rattle.acyclic_fields.specs.declared.four.Case.{Case}
 use Rattle.acyclic_fields.specs.declared.four.Case.the-variants as case
 use Rattle.service_fields.specs.declared.Own.{Own}
@@ -73,8 +76,36 @@ contentBytes content.ChkCfg = []
 abbrev pub ownFields : Content → List ℕ
 ownFields c = serviceNumber (serviceOf c) ∷ placesOf 10 (contentBytes c)
 
+-- all eighteen
+abbrev pub fieldsWith : (way kind da sa fc start len : ℕ) → Content → List ℕ
+fieldsWith way kind da sa fc start len c = serviceNumber (serviceOf c) ∷ way ∷ kind ∷ da ∷ sa ∷ fc ∷ start ∷ len ∷ placesOf 10 (contentBytes c)
+
 abbrev pub ownBytes : Own → List ℕ
 ownBytes o = o .0 ∷ o .1 ∷ o .2 ∷ o .3 ∷ o .4 ∷ o .5 ∷ o .6 ∷ o .7 ∷ o .8 ∷ o .9 ∷ o .10 ∷ []
+
+-- ---- how many of the ten a content has, from the first on
+
+-- its fixed bytes; of DPV1 those of the four that the case has
+abbrev pub contentPlaces : Content → ℕ
+contentPlaces content.DataExchange = 0
+contentPlaces (content.Dpv1Call c) = callPlaces c
+contentPlaces (content.Dpv1Answer x) = answerPlaces x
+contentPlaces content.ExtUserPrm = 0
+contentPlaces (content.SetSlaveAdr f) = 4
+contentPlaces content.RdInp = 0
+contentPlaces content.RdOutp = 0
+contentPlaces (content.GlobalControl f) = 2
+contentPlaces content.GetCfg = 0
+contentPlaces content.SlaveDiagCall = 0
+contentPlaces (content.SlaveDiag h) = 6
+contentPlaces (content.SetPrm f) = parameters.userStart f
+contentPlaces content.ChkCfg = 0
+
+abbrev pub placesIn : Named → ℕ
+placesIn (named.Content c) = contentPlaces c
+placesIn named.Reserved = 0
+placesIn named.Unlisted = 0
+placesIn named.Nothing = 0
 
 -- ---- writing: the content that the fields name
 
@@ -86,6 +117,22 @@ isAnswer class.Uncounted = false
 isAnswer class.Bare = true
 isAnswer class.Data = true
 isAnswer class.Reserved = false
+
+-- a content that goes one way alone goes the function code's
+abbrev pub WayFits : Content → (fc : ℕ) → Type 0
+WayFits content.DataExchange fc = Unit
+WayFits (content.Dpv1Call c) fc = isAnswer (classOf fc) ≡ false
+WayFits (content.Dpv1Answer x) fc = isAnswer (classOf fc) ≡ true
+WayFits content.ExtUserPrm fc = Unit
+WayFits (content.SetSlaveAdr f) fc = Unit
+WayFits content.RdInp fc = Unit
+WayFits content.RdOutp fc = Unit
+WayFits (content.GlobalControl f) fc = Unit
+WayFits content.GetCfg fc = Unit
+WayFits content.SlaveDiagCall fc = isAnswer (classOf fc) ≡ false
+WayFits (content.SlaveDiag h) fc = isAnswer (classOf fc) ≡ true
+WayFits (content.SetPrm f) fc = Unit
+WayFits content.ChkCfg fc = Unit
 
 -- is the way that the fields give, their second, the function code's
 unfoldable pub rightWay : (fields : List ℕ) → Bool
@@ -126,6 +173,10 @@ headerIn fields =
 -- a call of Slave_Diag has no fields
 unfoldable pub diagnosisIn : (fields : List ℕ) → Content
 diagnosisIn fields = pick (isAnswer (classOf (getD fields 5 0))) (content.SlaveDiag (headerIn fields)) content.SlaveDiagCall
+
+-- the version of a number that is 0 or 1
+abbrev pub modeOf : (version : ℕ) → Mode
+modeOf version = pick (eqb version 0) mode.Dpv0 mode.Dpv1
 
 abbrev pub extensionIn : (version a b c : ℕ) → Extension
 extensionIn version a b c = pick (eqb version 0) extension.Dpv0 (extension.Dpv1 a b c)

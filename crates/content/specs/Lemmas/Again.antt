@@ -4,7 +4,7 @@ use mathlib.Core.Path.{_≡_, refl, sym, ap, _∙_}
 use mathlib.Core.List.{List, []}
 use native.Mathlib.Omega.{arith}
 use native.Mathlib.Nat.{le-trans}
-use lib.ListN.{length, getD, take, drop}
+use lib.ListN.{length, take, drop}
 use lib.Seq.{length-take-le, drop-at}
 use lib.Dec.{ltb}
 use borrow.Author.Tests.{ltb-false, le-ltb}
@@ -38,8 +38,10 @@ use Rattle.control.specs.declared.command.CommandReading.{CommandReading}
 use Rattle.control.specs.declared.command.CommandReading.the-variants as command-reading
 use Rattle.diagnosis.specs.Contents as contents
 use Rattle.diagnosis.specs.Laws as diagnosis
-use Rattle.diagnosis.specs.Reading.{readOf as readDiagnosis}
+use Rattle.diagnosis.specs.Reading.{judge, headerOf, answered, readOf as readDiagnosis}
 use Rattle.diagnosis.specs.Writing.{diagnosisBytes, verdictOf}
+use Rattle.diagnosis.specs.declared.reading.Count.{Count}
+use Rattle.diagnosis.specs.declared.reading.Count.the-variants as count
 use Rattle.diagnosis.specs.declared.reading.Reading as diagnosis-type
 use Rattle.diagnosis.specs.declared.reading.Reading.the-variants as diagnosis-reading
 use Rattle.parameters.specs.Fields.{fixedLength as modeLength, verdictOf as parametersVerdict}
@@ -52,7 +54,7 @@ use Rattle.access.specs.declared.table.Service.{Service}
 use Rattle.access.specs.declared.table.Service.the-variants as service
 use Rattle.access.specs.declared.route.Answering.{Answering}
 use Rattle.access.specs.declared.route.Answering.the-variants as answering
-use Rattle.content.specs.Fields.{serviceOf, fixedLength, ModeFits}
+use Rattle.content.specs.Fields.{serviceOf, fixedLength, IdentFits, Fits, FitsEvery}
 use Rattle.content.specs.Reading.{refused, plainOf, emptyOf, addressIn, commandIn, diagnosisIn, parametersIn, configurationIn, dpv1CallIn, dpv1AnswerIn, callOf, answerOf}
 use Rattle.content.specs.Writing.{bytesFor, atMost, callVerdict, answerVerdict}
 use Rattle.content.specs.Lemmas.Lengths.{bytes-long}
@@ -63,9 +65,9 @@ use Rattle.content.specs.declared.reading.UserData.the-variants.{Is, Ref
 
 -- A content with len bytes from start, as read from u: it is the service's, it fits what the reader was told, its fields take what
 -- stands before the part, and it may be written with that part and gives the same bytes.
-pub record Again (verdict : Content → List ℕ → Verdict) (Fits : Content → Type 0) (s : Service) (u : List ℕ) (c : Content) (start len : ℕ) : Type 0 where
+pub record Again (verdict : Content → List ℕ → Verdict) (Fitting : Content → Type 0) (s : Service) (u : List ℕ) (c : Content) (start len : ℕ) : Type 0 where
   pub service : serviceOf c ≡ s
-  pub fits : Fits c
+  pub fits : Fitting c
   pub front : start ≡ fixedLength c
   pub taken : verdict c (partOf u start len) ≡ fine
   pub same : bytesFor c (partOf u start len) ≡ u
@@ -75,25 +77,37 @@ abbrev pub Holds : (Content → (start len : ℕ) → Type 0) → UserData → T
 Holds P (Is c start len) = P c start len
 Holds P (Refused r) = Unit
 
--- ---- where the part begins
+-- ---- where the part begins, and that two bytes hold the ident number
 
--- where user data have a content, its part begins there
+-- where user data have a content, its part begins there, and its ident number has two bytes
 abbrev From : ℕ → UserData → Type 0
-From n d = Holds (λ _ start _. start ≡ n) d
+From n d = Holds (λ c start _. (start ≡ n) × IdentFits c) d
 
-address-from : (u : List ℕ) → From 4 (addressIn (readAddress u))
+address-from : (u : List ℕ) → Bytes u → From 4 (addressIn (readAddress u))
 unfolding readAddress
-address-from u = by-verdict (λ (r : AddressReading). From 4 (addressIn r)) (addressVerdict (addressFields u) (length u)) (λ _. tt) (λ _. refl)
+address-from u b =
+    by-verdict (λ (r : AddressReading). From 4 (addressIn r)) (addressVerdict (addressFields u) (length u)) (λ _. tt)
+    (λ _. (refl, omega (arith, b 1, b 2)))
 
 command-from : (u : List ℕ) → From 2 (commandIn (readCommand u))
 unfolding readCommand
-command-from u = by-verdict (λ (r : CommandReading). From 2 (commandIn r)) (commandVerdict (commandFields u) (length u)) (λ _. tt) (λ _. refl)
+command-from u = by-verdict (λ (r : CommandReading). From 2 (commandIn r)) (commandVerdict (commandFields u) (length u)) (λ _. tt) (λ _. (refl, tt))
 
-parameters-from : (u : List ℕ) (m : Mode) → From (modeLength m) (parametersIn (readParameters u m))
+parameters-from : (u : List ℕ) → Bytes u → (m : Mode) → From (modeLength m) (parametersIn (readParameters u m))
 unfolding readParameters
-parameters-from u m =
+parameters-from u b m =
     by-pick (λ (r : parameters-type.Reading). From (modeLength m) (parametersIn r)) (ltb (length u) (modeLength m)) (λ _. tt)
-    (λ _. by-verdict (λ (r : parameters-type.Reading). From (modeLength m) (parametersIn r)) (parametersVerdict (parametersFields u (extensionIn u m)) (length u)) (λ _. tt) (λ _. refl))
+    (λ _. by-verdict (λ (r : parameters-type.Reading). From (modeLength m) (parametersIn r)) (parametersVerdict (parametersFields u (extensionIn u m)) (length u)) (λ _. tt)
+    (λ _. (refl, omega (arith, b 4, b 5))))
+
+diagnosis-from : (u : List ℕ) → Bytes u → From 6 (diagnosisIn (readDiagnosis u) (length u))
+unfolding readDiagnosis
+diagnosis-from u b =
+    by-pick (λ (r : diagnosis-type.Reading). From 6 (diagnosisIn r (length u))) (ltb (length u) 6) (λ _. tt) (λ _. counted (judge (headerOf u) (drop 6 u)))
+  where
+    counted : (k : Count) → From 6 (diagnosisIn (answered (headerOf u) k) (length u))
+    counted (count.Blocks n) = (refl, omega (arith, b 4, b 5))
+    counted (count.Refused r) = tt
 
 module _ (u : List ℕ) (bytes : Bytes u) where
   -- ---- the part
@@ -114,11 +128,11 @@ module _ (u : List ℕ) (bytes : Bytes u) where
 
   -- ---- bytes as they are
 
-  module _ (verdict : Content → List ℕ → Verdict) (Fits : Content → Type 0) (c : Content) (fits : Fits c) (none : 0 ≡ fixedLength c) (same : bytesFor c u ≡ u) where
+  module _ (verdict : Content → List ℕ → Verdict) (Fitting : Content → Type 0) (c : Content) (fits : Fitting c) (none : 0 ≡ fixedLength c) (same : bytesFor c u ≡ u) where
     abbrev Kept : UserData → Type 0
-    Kept d = Holds (Again verdict Fits (serviceOf c) u) d
+    Kept d = Holds (Again verdict Fitting (serviceOf c) u) d
 
-    whole-again : verdict c u ≡ fine → Again verdict Fits (serviceOf c) u c 0 (length u)
+    whole-again : verdict c u ≡ fine → Again verdict Fitting (serviceOf c) u c 0 (length u)
     whole-again good =
         record { service = refl; fits = fits; front = none; taken = ap (verdict c) whole ∙ good; same = ap (bytesFor c) whole ∙ same }
 
@@ -136,83 +150,84 @@ module _ (u : List ℕ) (bytes : Bytes u) where
 
   module _ (m : Mode) where
     abbrev Called : Service → UserData → Type 0
-    Called s d = Holds (Again callVerdict (λ c. ModeFits c m) s u) d
+    Called s d = Holds (Again callVerdict (λ c. Fits c m) s u) d
 
     address-again : (r : AddressReading) → readAddress u ≡ r → From 4 (addressIn r) → Called service.SetSlaveAdr (addressIn r)
     unfolding callVerdict bytesFor
     address-again (address-reading.Change f start len) e s =
         let w = address-writes-back u bytes e in
-        record { service = refl; fits = tt; front = s; taken = w .0; same = w .1 }
+        record { service = refl; fits = (tt, s .1); front = s .0; taken = w .0; same = w .1 }
     address-again (address-reading.Refused r) e s = tt
 
     command-again : (r : CommandReading) → readCommand u ≡ r → From 2 (commandIn r) → Called service.GlobalControl (commandIn r)
     unfolding callVerdict bytesFor
     command-again (command-reading.Command f start len) e s =
         let w = command-writes-back u e in
-        record { service = refl; fits = tt; front = s; taken = w .0; same = w .1 }
+        record { service = refl; fits = (tt, s .1); front = s .0; taken = w .0; same = w .1 }
     command-again (command-reading.Refused r) e s = tt
 
     parameters-again : (r : parameters-type.Reading) → readParameters u m ≡ r → From (modeLength m) (parametersIn r) → Called service.SetPrm (parametersIn r)
     unfolding callVerdict bytesFor
     parameters-again (parameters-reading.Parameters f start len) e s =
         let w = parameters.writes-back u bytes m e in
-        record { service = refl; fits = w .mode; front = s ∙ ap modeLength (sym (w .mode)); taken = w .taken; same = w .same }
+        record { service = refl; fits = (w .mode, s .1); front = s .0 ∙ ap modeLength (sym (w .mode)); taken = w .taken; same = w .same }
     parameters-again (parameters-reading.Refused r) e s = tt
 
     dpv1-call-again : (r : CallReading) → readCallOf u ≡ r → Called service.Dpv1 (dpv1CallIn r)
     unfolding callVerdict bytesFor
     dpv1-call-again (call-reading.Call c start len) e =
         let w = call-writes-back u e in
-        record { service = refl; fits = tt; front = front-is (content.Dpv1Call c) start len (call-data-inside u e) (w .1); taken = w .0; same = w .1 }
+        record { service = refl; fits = (tt, tt); front = front-is (content.Dpv1Call c) start len (call-data-inside u e) (w .1); taken = w .0; same = w .1 }
     dpv1-call-again (call-reading.Refused r) e = tt
 
     pub call-again : (s : Service) → Called s (callOf s u m)
     unfolding callOf plainOf emptyOf bytesFor callVerdict
-    call-again service.DataExchange = at-most-again callVerdict (λ c. ModeFits c m) content.DataExchange tt refl refl refl (omega arith)
+    call-again service.DataExchange = at-most-again callVerdict (λ c. Fits c m) content.DataExchange (tt, tt) refl refl refl (omega arith)
     call-again service.Dpv1 = dpv1-call-again (readCallOf u) refl
-    call-again service.ExtUserPrm = at-most-again callVerdict (λ c. ModeFits c m) content.ExtUserPrm tt refl refl refl (omega arith)
-    call-again service.SetSlaveAdr = address-again (readAddress u) refl (address-from u)
-    call-again service.RdInp = at-most-again callVerdict (λ c. ModeFits c m) content.RdInp tt refl refl refl (omega arith)
-    call-again service.RdOutp = at-most-again callVerdict (λ c. ModeFits c m) content.RdOutp tt refl refl refl (omega arith)
+    call-again service.ExtUserPrm = at-most-again callVerdict (λ c. Fits c m) content.ExtUserPrm (tt, tt) refl refl refl (omega arith)
+    call-again service.SetSlaveAdr = address-again (readAddress u) refl (address-from u bytes)
+    call-again service.RdInp = at-most-again callVerdict (λ c. Fits c m) content.RdInp (tt, tt) refl refl refl (omega arith)
+    call-again service.RdOutp = at-most-again callVerdict (λ c. Fits c m) content.RdOutp (tt, tt) refl refl refl (omega arith)
     call-again service.GlobalControl = command-again (readCommand u) refl (command-from u)
-    call-again service.GetCfg = at-most-again callVerdict (λ c. ModeFits c m) content.GetCfg tt refl refl refl (omega arith)
-    call-again service.SlaveDiag = at-most-again callVerdict (λ c. ModeFits c m) content.SlaveDiagCall tt refl refl refl (omega arith)
-    call-again service.SetPrm = parameters-again (readParameters u m) refl (parameters-from u m)
+    call-again service.GetCfg = at-most-again callVerdict (λ c. Fits c m) content.GetCfg (tt, tt) refl refl refl (omega arith)
+    call-again service.SlaveDiag = at-most-again callVerdict (λ c. Fits c m) content.SlaveDiagCall (tt, tt) refl refl refl (omega arith)
+    call-again service.SetPrm = parameters-again (readParameters u m) refl (parameters-from u bytes m)
     call-again service.ChkCfg =
-        configuration-again callVerdict (λ c. ModeFits c m) content.ChkCfg tt refl refl refl (readConfiguration u) refl
+        configuration-again callVerdict (λ c. Fits c m) content.ChkCfg (tt, tt) refl refl refl (readConfiguration u) refl
 
   -- ---- answers
 
   abbrev Answered : Service → UserData → Type 0
-  Answered s d = Holds (Again answerVerdict (λ _. Unit) s u) d
+  Answered s d = Holds (Again answerVerdict FitsEvery s u) d
 
-  diagnosis-again : (r : diagnosis-type.Reading) → readDiagnosis u ≡ r → Answered service.SlaveDiag (diagnosisIn r (length u))
+  diagnosis-again : (r : diagnosis-type.Reading) → readDiagnosis u ≡ r → From 6 (diagnosisIn r (length u))
+      → Answered service.SlaveDiag (diagnosisIn r (length u))
   unfolding answerVerdict bytesFor
-  diagnosis-again (diagnosis-reading.Diagnosis h n) e =
+  diagnosis-again (diagnosis-reading.Diagnosis h n) e s =
       let w = diagnosis.writes-back u bytes (ap contents.accepted e) in
       let p = rest 6 (diagnosis.read-is-tiled u e .long) in
       record {
         service = refl;
-        fits = tt;
-        front = refl;
+        fits = λ m. (tt, s .1);
+        front = s .0;
         taken = ap (verdictOf h) (sym p) ∙ ap (λ (r : diagnosis-type.Reading). contents.verdictFor (contents.contentsIn u r)) (sym e) ∙ w .taken;
         same = ap (diagnosisBytes h) (sym p) ∙ ap (λ (r : diagnosis-type.Reading). contents.bytesFor (contents.contentsIn u r)) (sym e) ∙ w .same;
       }
-  diagnosis-again (diagnosis-reading.Refused r) e = tt
+  diagnosis-again (diagnosis-reading.Refused r) e s = tt
 
   dpv1-answer-again : (r : AnswerReading) → readAnswerOf u ≡ r → Answered service.Dpv1 (dpv1AnswerIn r)
   unfolding answerVerdict bytesFor
   dpv1-answer-again (answer-reading.Answer x start len) e =
       let w = answer-writes-back u e in
-      record { service = refl; fits = tt; front = front-is (content.Dpv1Answer x) start len (answer-data-inside u e) (w .1); taken = w .0; same = w .1 }
+      record { service = refl; fits = λ m. (tt, tt); front = front-is (content.Dpv1Answer x) start len (answer-data-inside u e) (w .1); taken = w .0; same = w .1 }
   dpv1-answer-again (answer-reading.Refused r) e = tt
 
   pub answer-again : (a : Answering) → Answered (answererOf a) (answerOf a u)
   unfolding answerOf plainOf bytesFor answerVerdict
-  answer-again answering.DataExchange = at-most-again answerVerdict (λ _. Unit) content.DataExchange tt refl refl refl (omega arith)
+  answer-again answering.DataExchange = at-most-again answerVerdict FitsEvery content.DataExchange (λ m. (tt, tt)) refl refl refl (omega arith)
   answer-again answering.Dpv1 = dpv1-answer-again (readAnswerOf u) refl
-  answer-again answering.RdInp = at-most-again answerVerdict (λ _. Unit) content.RdInp tt refl refl refl (omega arith)
-  answer-again answering.RdOutp = at-most-again answerVerdict (λ _. Unit) content.RdOutp tt refl refl refl (omega arith)
+  answer-again answering.RdInp = at-most-again answerVerdict FitsEvery content.RdInp (λ m. (tt, tt)) refl refl refl (omega arith)
+  answer-again answering.RdOutp = at-most-again answerVerdict FitsEvery content.RdOutp (λ m. (tt, tt)) refl refl refl (omega arith)
   answer-again answering.GetCfg =
-      configuration-again answerVerdict (λ _. Unit) content.GetCfg tt refl refl refl (readConfiguration u) refl
-  answer-again answering.SlaveDiag = diagnosis-again (readDiagnosis u) refl
+      configuration-again answerVerdict FitsEvery content.GetCfg (λ m. (tt, tt)) refl refl refl (readConfiguration u) refl
+  answer-again answering.SlaveDiag = diagnosis-again (readDiagnosis u) refl (diagnosis-from u bytes)

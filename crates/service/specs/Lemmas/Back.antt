@@ -37,7 +37,7 @@ use Rattle.service.specs.declared.reading.Way.the-variants as way
 use Rattle.service.specs.declared.reading.Reading.the-variants as reading
 
 -- where one verdict comes before another, and the whole is fine, both are
-both-fine : (v w : Verdict) → judged fault v w ≡ fine → (v ≡ fine) × (w ≡ fine)
+pub both-fine : (v w : Verdict) → judged fault v w ≡ fine → (v ≡ fine) × (w ≡ fine)
 both-fine fine w e = (refl, e)
 both-fine (fault k) w e = absurd (fault-fine e)
 

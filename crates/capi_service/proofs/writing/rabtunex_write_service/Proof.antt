@@ -1,13 +1,16 @@
 -- `capi_service::writing::rabtunex_write_service` meets its contract, by what `write_named` ensures of what the fields name.
 use mathlib.Core.Path.{_≡_, refl, sym, subst, _∙_}
+use mathlib.Core.Bool.{Bool}
 use mathlib.Core.List.{List, []}
 use Prim.Native.Nat.{ℕ}
 use lib.ListN.{length}
 use borrow.Author.Tests.{lt-ltb, le-ltb}
 use Rattle.octets.specs.Front.{Verdict, fault, answerBy, heldBy, refused}
 use Rattle.fields.specs.Outcome.{statusOf, countAfter}
-use Rattle.capi_service.specs.Service.{kindVerdict, kindBytes, verdictIn, bytesIn}
+use Rattle.capi_service.specs.Service.{namedVerdict, namedBytes, kindVerdict, kindBytes, verdictIn, bytesIn}
 use Rattle.service_fields.specs.Service.{contentIn}
+use Rattle.service_fields.specs.declared.Named.{Named}
+use Rattle.fdl.specs.declared.telegram.Format.{Format}
 use Rattle.fields.specs.declared.kinds.Kind.{Kind}
 use borrow.Author.Needs.{needs}
 use Rattle.capi_service.proofs.writing.rabtunex_write_service.Statement.{statement}
@@ -38,6 +41,13 @@ by-kind c {k} {r} {after} {count} e o =
     (λ (x : Kind). Outcome (a .out .now) (a .stored .now) r after count (kindVerdict x named (a .fields .now) (a .part .now)) (kindBytes x named (a .fields .now) (a .part .now)))
     (sym e ∙ c .kind-of .ensures)
     o)
+
+-- a test of the way goes by what the test answers
+by-way : (out : List ℕ) (before : ℕ) (n : Named) (f : Format) (fields part : List ℕ) {r : ℕ} {after : List ℕ} {count : ℕ} {b d : Bool} → b ≡ d
+    → Outcome out before r after count (namedVerdict n b f fields part) (namedBytes n f fields part)
+    → Outcome out before r after count (namedVerdict n d f fields part) (namedBytes n f fields part)
+by-way out before n f fields part {r} {after} {count} e o =
+    subst (λ (x : Bool). Outcome out before r after count (namedVerdict n x f fields part) (namedBytes n f fields part)) e o
 
 returns : tie.Need-returns
 returns c =
@@ -98,8 +108,11 @@ returns-5 c =
     let r = w .before .before in
     let n = r .before in
     let t = n .before .before in
-    let e = rw (n .content-in .ensures, r .right-way .ensures) at (w .write-named .ensures) in
-    by-kind (t .before .before) (t .kind .given .1) (rw (← (e .0)) (c .store-count .ensures .0, (e .1, c .store-count .ensures .1)))
+    let e = rw (n .content-in .ensures) at (w .write-named .ensures) in
+    let k = t .before .before in
+    let a = k .before .before .before .before .before .before .before .args in
+    by-kind k (t .kind .given .1)
+    (by-way (a .out .now) (a .stored .now) (contentIn (a .fields .now) (a .version)) (t .kind .given .0 .0) (a .fields .now) (a .part .now) (r .right-way .ensures) (rw (← (e .0)) (c .store-count .ensures .0, (e .1, c .store-count .ensures .1))))
 
 returns-6 : tie.Need-returns-6
 returns-6 c = by-kind (c .before .before) (c .enum-told3 .given .1) (unstored _ _ 12 [])
