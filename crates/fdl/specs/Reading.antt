@@ -7,7 +7,7 @@ use lib.ListN.{length, getD, take, drop}
 use lib.Dec.{eqb, ltb}
 use Rattle.octets.specs.Choice.{pick}
 use Rattle.function_code.specs.Code.{classOf, isReserved}
-use Rattle.fdl.specs.Telegram.{checksumOf, sapLength}
+use Rattle.fdl.specs.Telegram.{startByte, tokenByte, confirmationByte, checksumOf, sapLength}
 use Rattle.function_code.specs.declared.code.Class.{Class}
 use Rattle.fdl.specs.declared.telegram.Format.{Format}
 use Rattle.fdl.specs.declared.telegram.Format.the-variants.{Sd1, Sd2, Sd3}
@@ -91,16 +91,16 @@ module _ (classes : ℕ → Class) where
       (pick (ltb (getD s 1 0) 4) (refused 3)
       (pick (ltb mostLe (getD s 1 0)) (refused 3)
       (pick (not (eqb (getD s 2 0) (getD s 1 0))) (refused 3)
-      (pick (not (eqb (getD s 3 0) 0x68)) (refused 3) (framedOf s Sd2 4 (getD s 1 0 - 3))))))
+      (pick (not (eqb (getD s 3 0) (startByte Sd2))) (refused 3) (framedOf s Sd2 4 (getD s 1 0 - 3))))))
 
   -- by the start byte
   abbrev pub startOf : ℕ → List ℕ → Reading
   startOf b s =
-      pick (eqb b 0x10) (framedOf s Sd1 1 0)
-      (pick (eqb b 0x68) (sd2Of s)
-      (pick (eqb b 0xA2) (framedOf s Sd3 1 8)
-      (pick (eqb b 0xDC) (tokenOf s)
-      (pick (eqb b 0xE5) (pick (eqb (length s) 1) Confirmation (refused 4)) (refused 2)))))
+      pick (eqb b (startByte Sd1)) (framedOf s Sd1 1 0)
+      (pick (eqb b (startByte Sd2)) (sd2Of s)
+      (pick (eqb b (startByte Sd3)) (framedOf s Sd3 1 8)
+      (pick (eqb b tokenByte) (tokenOf s)
+      (pick (eqb b confirmationByte) (pick (eqb (length s) 1) Confirmation (refused 4)) (refused 2)))))
 
   unfoldable pub readBy : List ℕ → Reading
   readBy s = pick (eqb (length s) 0) (refused 1) (startOf (getD s 0 0) s)

@@ -7,7 +7,7 @@ use lib.Dec.{eqb, leb}
 use Rattle.octets.specs.Choice.{pick, _and_}
 use Rattle.octets.specs.Front.{Verdict, fine, fault}
 use Rattle.function_code.specs.Code.{classOf, isReserved}
-use Rattle.fdl.specs.Telegram.{checksumOf, sapLength}
+use Rattle.fdl.specs.Telegram.{startByte, tokenByte, confirmationByte, checksumOf, sapLength}
 use Rattle.function_code.specs.declared.code.Class.{Class}
 use Rattle.fdl.specs.declared.telegram.Format.{Format}
 use Rattle.fdl.specs.declared.telegram.Format.the-variants.{Sd1, Sd2, Sd3}
@@ -19,9 +19,9 @@ use Rattle.fdl.specs.declared.telegram.Sap.the-variants.{Absent, Present
 
 -- what stands before DA; le counts DA through the PDU
 abbrev pub startBytes : Format → (le : ℕ) → List ℕ
-startBytes Sd1 le = 0x10 ∷ []
-startBytes Sd2 le = 0x68 ∷ le ∷ le ∷ 0x68 ∷ []
-startBytes Sd3 le = 0xA2 ∷ []
+startBytes Sd1 le = startByte Sd1 ∷ []
+startBytes Sd2 le = startByte Sd2 ∷ le ∷ le ∷ startByte Sd2 ∷ []
+startBytes Sd3 le = startByte Sd3 ∷ []
 
 abbrev pub sapBytes : Sap → List ℕ
 sapBytes Absent = []
@@ -49,10 +49,10 @@ abbrev pub userStart : Format → Header → ℕ
 userStart f h = length (startBytes f 0) + 3 + sapLength (h .dsap) + sapLength (h .ssap)
 
 abbrev pub tokenBytes : (da sa : ℕ) → List ℕ
-tokenBytes da sa = 0xDC ∷ da ∷ sa ∷ []
+tokenBytes da sa = tokenByte ∷ da ∷ sa ∷ []
 
 abbrev pub confirmationBytes : List ℕ
-confirmationBytes = 0xE5 ∷ []
+confirmationBytes = confirmationByte ∷ []
 
 -- ---- the fields that may be written: any other gives 12
 

@@ -2,6 +2,17 @@
 ghost use mathlib.Core.Path.{_≡_};
 ghost use Rattle.fdl.specs.Telegram.{sapLength, checksumOf};
 
+// The start bytes: of the three formats with fields, of a token, and the short confirmation.
+pub const SD1: u8 = 0x10;
+
+pub const SD2: u8 = 0x68;
+
+pub const SD3: u8 = 0xA2;
+
+pub const SD4: u8 = 0xDC;
+
+pub const SC: u8 = 0xE5;
+
 // The start byte's format of a telegram with fields.
 pub enum Format {
     Sd1,

@@ -10,6 +10,7 @@ use lib.Dec.{eqb, ltb}
 use borrow.Author.Tests.{ltb-false}
 use Rattle.octets.specs.Choice.{pick}
 use Rattle.function_code.specs.Code.{classOf}
+use Rattle.fdl.specs.Telegram.{startByte, tokenByte, confirmationByte}
 use Rattle.fdl.specs.Reading.{tokenOf, mostLe, framedOf, sd2Of, readBy, readOf}
 use Rattle.fdl.specs.declared.telegram.Format.{Format}
 use Rattle.fdl.specs.declared.telegram.Format.the-variants.{Sd1, Sd2, Sd3}
@@ -28,18 +29,18 @@ sd2Leading s =
     (pick (ltb (getD s 1 0) 4) (refused 3)
     (pick (ltb mostLe (getD s 1 0)) (refused 3)
     (pick (not (eqb (getD s 2 0) (getD s 1 0))) (refused 3)
-    (pick (not (eqb (getD s 3 0) 0x68)) (refused 3) (Framed Sd2 (getD s 1 0 - 3))))))
+    (pick (not (eqb (getD s 3 0) (startByte Sd2))) (refused 3) (Framed Sd2 (getD s 1 0 - 3))))))
 
 -- by the start byte
 unfoldable pub leadingOf : List ℕ → Leading
 leadingOf s =
     let b = getD s 0 0 in
     pick (eqb (length s) 0) (refused 1)
-    (pick (eqb b 0x10) (Framed Sd1 0)
-    (pick (eqb b 0x68) (sd2Leading s)
-    (pick (eqb b 0xA2) (Framed Sd3 8)
-    (pick (eqb b 0xDC) Token
-    (pick (eqb b 0xE5) (pick (eqb (length s) 1) Confirmation (refused 4)) (refused 2))))))
+    (pick (eqb b (startByte Sd1)) (Framed Sd1 0)
+    (pick (eqb b (startByte Sd2)) (sd2Leading s)
+    (pick (eqb b (startByte Sd3)) (Framed Sd3 8)
+    (pick (eqb b tokenByte) Token
+    (pick (eqb b confirmationByte) (pick (eqb (length s) 1) Confirmation (refused 4)) (refused 2))))))
 
 -- DA stands behind the start byte, and in SD2 behind four bytes
 abbrev pub placeOf : Format → ℕ
@@ -66,7 +67,7 @@ sd2-leads s =
     (λ _. both (Leads s) (ltb (getD s 1 0) 4) refl
     (λ _. both (Leads s) (ltb mostLe (getD s 1 0)) refl
     (λ h. both (Leads s) (not (eqb (getD s 2 0) (getD s 1 0))) refl
-    (λ _. both (Leads s) (not (eqb (getD s 3 0) 0x68)) refl
+    (λ _. both (Leads s) (not (eqb (getD s 3 0) (startByte Sd2))) refl
     (λ _. (refl, omega (arith, ltb-false mostLe (getD s 1 0) h)))))))
 
 pub leads : (s : List ℕ) → Leads s (readOf s) (leadingOf s)
@@ -74,8 +75,8 @@ unfolding readBy leadingOf
 leads s =
     let b = getD s 0 0 in
     both (Leads s) (eqb (length s) 0) refl
-    (λ _. both (Leads s) (eqb b 0x10) (refl, omega arith)
-    (λ _. both (Leads s) (eqb b 0x68) (sd2-leads s)
-    (λ _. both (Leads s) (eqb b 0xA2) (refl, omega arith)
-    (λ _. both (Leads s) (eqb b 0xDC) refl
-    (λ _. both (Leads s) (eqb b 0xE5) (both (Leads s) (eqb (length s) 1) refl (λ _. refl)) (λ _. refl))))))
+    (λ _. both (Leads s) (eqb b (startByte Sd1)) (refl, omega arith)
+    (λ _. both (Leads s) (eqb b (startByte Sd2)) (sd2-leads s)
+    (λ _. both (Leads s) (eqb b (startByte Sd3)) (refl, omega arith)
+    (λ _. both (Leads s) (eqb b tokenByte) refl
+    (λ _. both (Leads s) (eqb b confirmationByte) (both (Leads s) (eqb (length s) 1) refl (λ _. refl)) (λ _. refl))))))

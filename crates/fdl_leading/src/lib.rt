@@ -30,7 +30,7 @@ fn sd2(s: &[u8]) -> Leading
     if s[2] != le {
         return Leading::Refused(Refusal { number: 3 });
     }
-    if s[3] != 0x68 {
+    if s[3] != fdl::SD2 {
         return Leading::Refused(Refusal { number: 3 });
     }
     Leading::Framed {
@@ -48,17 +48,17 @@ pub fn leading_bytes(s: &[u8]) -> Leading
     }
     let start = s[0];
     match start {
-        0x10 => Leading::Framed {
+        fdl::SD1 => Leading::Framed {
             format: Format::Sd1,
             pdu: 0,
         },
-        0x68 => sd2(s),
-        0xA2 => Leading::Framed {
+        fdl::SD2 => sd2(s),
+        fdl::SD3 => Leading::Framed {
             format: Format::Sd3,
             pdu: 8,
         },
-        0xDC => Leading::Token,
-        0xE5 => {
+        fdl::SD4 => Leading::Token,
+        fdl::SC => {
             if s.len() == 1 {
                 Leading::Confirmation
             } else {

@@ -33,18 +33,18 @@ fn put_start(format: Format, le: u8, out: &mut [u8]) -> usize
 {
     match format {
         Format::Sd1 => {
-            out[0] = 0x10;
+            out[0] = fdl::SD1;
             1
         }
         Format::Sd2 => {
-            out[0] = 0x68;
+            out[0] = fdl::SD2;
             out[1] = le;
             out[2] = le;
-            out[3] = 0x68;
+            out[3] = fdl::SD2;
             4
         }
         Format::Sd3 => {
-            out[0] = 0xA2;
+            out[0] = fdl::SD3;
             1
         }
     }

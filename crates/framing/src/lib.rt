@@ -122,7 +122,7 @@ pub fn write_token(da: u8, sa: u8, out: &mut [u8]) -> Written
     if out.len() < 3 {
         return Written::Refused(11);
     }
-    out[0] = 0xDC;
+    out[0] = fdl::SD4;
     out[1] = da;
     out[2] = sa;
     Written::Stored(3)
@@ -136,6 +136,6 @@ pub fn write_confirmation(out: &mut [u8]) -> Written
     if out.len() < 1 {
         return Written::Refused(11);
     }
-    out[0] = 0xE5;
+    out[0] = fdl::SC;
     Written::Stored(1)
 }

@@ -38,8 +38,9 @@ class-at {table} {fc} e h l t = e .there ∙ rw zero-add at (from table 0 t fc (
 -- the class that a number of the table names
 abbrev pub named : ℕ → Class
 named n =
-    pick (eqb n 0) Opening
-    (pick (eqb n 1) Counted (pick (eqb n 2) Uncounted (pick (eqb n 3) Bare (pick (eqb n 4) Data Reserved))))
+    pick (eqb n (classNumber Opening)) Opening
+    (pick (eqb n (classNumber Counted)) Counted
+    (pick (eqb n (classNumber Uncounted)) Uncounted (pick (eqb n (classNumber Bare)) Bare (pick (eqb n (classNumber Data)) Data Reserved))))
 
 pub named-number : (c : Class) → named (classNumber c) ≡ c
 named-number Opening = refl

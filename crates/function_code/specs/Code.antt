@@ -38,7 +38,7 @@ classNumber Data = 4
 classNumber Reserved = 5
 
 abbrev pub isReserved : Class → Bool
-isReserved c = eqb (classNumber c) 5
+isReserved c = eqb (classNumber c) (classNumber Reserved)
 
 -- what a table has at a function code
 pub record Entry (table : List ℕ) (fc n : ℕ) : Type 0 where

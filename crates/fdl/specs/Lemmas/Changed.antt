@@ -13,7 +13,7 @@ use borrow.Author.Tests.{eqb-true, eqb-false, not-true}
 use Rattle.octets.specs.Choice.{and-left, never}
 use Rattle.octets.specs.Bytes.{Bytes}
 use Rattle.function_code.specs.Code.{isReserved}
-use Rattle.fdl.specs.Telegram.{sumOf, checksumOf}
+use Rattle.fdl.specs.Telegram.{startByte, sumOf, checksumOf}
 use Rattle.fdl.specs.Writing.{startBytes, goodLength, confirmationBytes}
 use Rattle.fdl.specs.Contents.{accepted, isToken}
 use Rattle.fdl.specs.Lemmas.Reads.{Starts, Frames, Reads, confirmation, token, telegram, refusal, start-byte}
@@ -41,19 +41,12 @@ checksum-set l j v h a b ne e = omega (arith, sum-set l j v h)
 
 -- ---- what the start says
 
-firstByte : Format → ℕ
-firstByte Sd1 = 0x10
-firstByte Sd2 = 0x68
-firstByte Sd3 = 0xA2
-
-first-byte : (f : Format) (le : ℕ) → getD (startBytes f le) 0 0 ≡ firstByte f
-unfolding firstByte
+first-byte : (f : Format) (le : ℕ) → getD (startBytes f le) 0 0 ≡ startByte f
 first-byte Sd1 le = refl
 first-byte Sd2 le = refl
 first-byte Sd3 le = refl
 
-one-format : (f g : Format) → firstByte f ≡ firstByte g → f ≡ g
-unfolding firstByte
+one-format : (f g : Format) → startByte f ≡ startByte g → f ≡ g
 one-format Sd1 Sd1 e = refl
 one-format Sd1 Sd2 e = absurd (omega (arith, e))
 one-format Sd1 Sd3 e = absurd (omega (arith, e))
@@ -75,7 +68,7 @@ record Framed (classes : ℕ → Class) (s : List ℕ) : Type 0 where
   pub frames : Frames classes s at pdu dsap ssap
 
 module _ {classes : ℕ → Class} {s : List ℕ} (a : Framed classes s) where
-  first-is : getD s 0 0 ≡ firstByte (a .format)
+  first-is : getD s 0 0 ≡ startByte (a .format)
   first-is =
       start-byte (a .starts) 0 (omega (arith, a .starts .place, start-some (a .format)))
       ∙ first-byte (a .format) (a .pdu + 3)
@@ -176,7 +169,7 @@ module _ (classes : ℕ → Class) (reserved : classes 0x68 ≡ Reserved) (s : L
     fourth z = there 3 (λ e. omega (arith, e, z))
 
     same-format : a .format ≡ a′ .format → i ≡ 0 → ⊥
-    same-format q z = clash-at 0 z (first-is a′ ∙ ap firstByte (sym q) ∙ sym (first-is a))
+    same-format q z = clash-at 0 z (first-is a′ ∙ ap startByte (sym q) ∙ sym (first-is a))
 
     -- the start byte: another format has another length, or 68 hex as its function code
     in-first : (f g : Format) → a .format ≡ f → a′ .format ≡ g → i ≡ 0 → ⊥

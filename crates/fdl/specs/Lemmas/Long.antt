@@ -11,6 +11,7 @@ use lib.Seq.{take-all, getD-take, length-take-le}
 use lib.Dec.{eqb, ltb}
 use borrow.Author.Tests.{lt-ltb, le-ltb, ne-eqb, ltb-false}
 use Rattle.octets.specs.Choice.{pick}
+use Rattle.fdl.specs.Telegram.{startByte, tokenByte, confirmationByte}
 use Rattle.fdl.specs.Reading.{refused, mostLe, framedOf, sd2Of, tokenOf, readBy}
 use Rattle.function_code.specs.declared.code.Class.{Class}
 use Rattle.fdl.specs.declared.telegram.Format.{Format}
@@ -20,13 +21,13 @@ use Rattle.fdl.specs.declared.reading.Reading.{Reading}
 overlongSd2 : (le again second : ℕ) → Reading
 overlongSd2 le again second =
     pick (ltb le 4) (refused 3)
-    (pick (ltb mostLe le) (refused 3) (pick (not (eqb again le)) (refused 3) (pick (not (eqb second 0x68)) (refused 3) (refused 4))))
+    (pick (ltb mostLe le) (refused 3) (pick (not (eqb again le)) (refused 3) (pick (not (eqb second (startByte Sd2))) (refused 3) (refused 4))))
 
 overlong : (start le again second : ℕ) → Reading
 overlong start le again second =
-    pick (eqb start 0x10) (refused 4)
-    (pick (eqb start 0x68) (overlongSd2 le again second)
-    (pick (eqb start 0xA2) (refused 4) (pick (eqb start 0xDC) (refused 4) (pick (eqb start 0xE5) (refused 4) (refused 2)))))
+    pick (eqb start (startByte Sd1)) (refused 4)
+    (pick (eqb start (startByte Sd2)) (overlongSd2 le again second)
+    (pick (eqb start (startByte Sd3)) (refused 4) (pick (eqb start tokenByte) (refused 4) (pick (eqb start confirmationByte) (refused 4) (refused 2)))))
 
 module _ (classes : ℕ → Class) (s : List ℕ) (h : 255 < length s) where
   framed-long : (f : Format) (at pdu : ℕ) → at ≤ 4 → pdu ≤ 246 → framedOf classes s f at pdu ≡ refused 4
@@ -46,9 +47,9 @@ module _ (classes : ℕ → Class) (s : List ℕ) (h : 255 < length s) where
           → pick (ltb (getD s 1 0) 4) (refused 3)
           (pick b (refused 3)
           (pick (not (eqb (getD s 2 0) (getD s 1 0))) (refused 3)
-          (pick (not (eqb (getD s 3 0) 0x68)) (refused 3) (framedOf classes s Sd2 4 (getD s 1 0 - 3)))))
+          (pick (not (eqb (getD s 3 0) (startByte Sd2))) (refused 3) (framedOf classes s Sd2 4 (getD s 1 0 - 3)))))
           ≡ pick (ltb (getD s 1 0) 4) (refused 3)
-          (pick b (refused 3) (pick (not (eqb (getD s 2 0) (getD s 1 0))) (refused 3) (pick (not (eqb (getD s 3 0) 0x68)) (refused 3) (refused 4))))
+          (pick b (refused 3) (pick (not (eqb (getD s 2 0) (getD s 1 0))) (refused 3) (pick (not (eqb (getD s 3 0) (startByte Sd2))) (refused 3) (refused 4))))
       high true e = refl
       high false e = simp (framed-long Sd2 4 (getD s 1 0 - 3) (omega arith) (omega (arith, ltb-false mostLe (getD s 1 0) e)))
 

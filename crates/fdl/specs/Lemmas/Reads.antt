@@ -13,7 +13,7 @@ use Rattle.octets.specs.Choice.{by-pick, and-left, and-right}
 use Rattle.octets.specs.Elements.{part-elements, rest-elements}
 use Rattle.octets.specs.declared.Refusal.{Refusal}
 use Rattle.function_code.specs.Code.{isReserved}
-use Rattle.fdl.specs.Telegram.{checksumOf, sapLength}
+use Rattle.fdl.specs.Telegram.{startByte, tokenByte, confirmationByte, checksumOf, sapLength}
 use Rattle.fdl.specs.Reading.{extensionOf, withSource, sourceOf, withDestination, destinationOf, tokenOf, mostLe, fieldsOf, framedOf, sd2Of, readBy}
 use Rattle.fdl.specs.Writing.{startBytes, tokenBytes, confirmationBytes, goodLength}
 use Rattle.fdl.specs.Lemmas.Extends.{Extends, Found, found, reads-extension}
@@ -111,7 +111,7 @@ module _ (classes : ℕ → Class) (s : List ℕ) where
   short-start : (f : Format) (pdu b : ℕ) → 0 < length s → getD s 0 0 ≡ b → 1 ≡ length (startBytes f 0) → startBytes f (pdu + 3) ≡ b ∷ [] → goodLength f pdu ≡ true → Starts s f 1 pdu
   short-start f pdu b h e p q g = record { place = p; bytes = part-elements 1 0 s (omega arith) ∙ ap (λ (x : ℕ). x ∷ []) e ∙ sym q; sized = g }
 
-  by-sd2 : getD s 0 0 ≡ 0x68 → R (sd2Of classes s)
+  by-sd2 : getD s 0 0 ≡ startByte Sd2 → R (sd2Of classes s)
   unfolding R sd2Of
   by-sd2 z =
       let le : ℕ = getD s 1 0 in
@@ -119,13 +119,13 @@ module _ (classes : ℕ → Class) (s : List ℕ) where
       (λ a. by-pick R (ltb le 4) (λ _. refusal)
       (λ b. by-pick R (ltb mostLe le) (λ _. refusal)
       (λ c. by-pick R (not (eqb (getD s 2 0) le)) (λ _. refusal)
-      (λ d. by-pick R (not (eqb (getD s 3 0) 0x68)) (λ _. refusal)
+      (λ d. by-pick R (not (eqb (getD s 3 0) (startByte Sd2))) (λ _. refusal)
       (λ e.
       let low : 4 ≤ le = ltb-false le 4 b in
       let high : le - 3 ≤ 246 = omega (arith, ltb-false mostLe le c) in
       let back : le - 3 + 3 ≡ le = omega arith in
       let again : getD s 2 0 ≡ le = eqb-true _ _ (not-false _ d) in
-      let second : getD s 3 0 ≡ 0x68 = eqb-true _ _ (not-false _ e) in
+      let second : getD s 3 0 ≡ startByte Sd2 = eqb-true _ _ (not-false _ e) in
       let some : le - 3 ≡ 0 → ⊥ = λ q. omega arith in
       by-frame Sd2 4 (le - 3)
       (record {
@@ -133,11 +133,11 @@ module _ (classes : ℕ → Class) (s : List ℕ) where
         bytes =
             part-elements 4 0 s (ltb-false (length s) 4 a)
             ∙ ap₂ (λ (x y : ℕ). x ∷ le ∷ y ∷ getD s 3 0 ∷ []) z again
-            ∙ ap₂ (λ (x y : ℕ). 0x68 ∷ x ∷ x ∷ y ∷ []) (sym back) second;
+            ∙ ap₂ (λ (x y : ℕ). startByte Sd2 ∷ x ∷ x ∷ y ∷ []) (sym back) second;
         sized = simp (ne-eqb _ _ some, le-leb _ _ high);
       }))))))
 
-  by-token : getD s 0 0 ≡ 0xDC → R (tokenOf s)
+  by-token : getD s 0 0 ≡ tokenByte → R (tokenOf s)
   unfolding R tokenOf
   by-token z =
       by-pick R (ltb (length s) 3) (λ _. refusal)
@@ -156,12 +156,12 @@ module _ (classes : ℕ → Class) (s : List ℕ) where
       (λ z.
       let some : length s ≡ 0 → ⊥ = eqb-false (length s) 0 z in
       let long : 0 < length s = omega arith in
-      by-pick R (eqb b 0x10) (λ e. by-frame Sd1 1 0 (short-start Sd1 0 0x10 long (eqb-true b 0x10 e) refl refl refl))
-      (λ _. by-pick R (eqb b 0x68) (λ e. by-sd2 (eqb-true b 0x68 e))
-      (λ _. by-pick R (eqb b 0xA2) (λ e. by-frame Sd3 1 8 (short-start Sd3 8 0xA2 long (eqb-true b 0xA2 e) refl refl refl))
-      (λ _. by-pick R (eqb b 0xDC) (λ e. by-token (eqb-true b 0xDC e))
-      (λ _. by-pick R (eqb b 0xE5)
-      (λ e. by-pick R (eqb (length s) 1) (λ l. confirmation (rest-elements 1 0 s (sym (eqb-true (length s) 1 l)) ∙ ap (λ (x : ℕ). x ∷ []) (eqb-true b 0xE5 e))) (λ _. refusal))
+      by-pick R (eqb b (startByte Sd1)) (λ e. by-frame Sd1 1 0 (short-start Sd1 0 (startByte Sd1) long (eqb-true b (startByte Sd1) e) refl refl refl))
+      (λ _. by-pick R (eqb b (startByte Sd2)) (λ e. by-sd2 (eqb-true b (startByte Sd2) e))
+      (λ _. by-pick R (eqb b (startByte Sd3)) (λ e. by-frame Sd3 1 8 (short-start Sd3 8 (startByte Sd3) long (eqb-true b (startByte Sd3) e) refl refl refl))
+      (λ _. by-pick R (eqb b tokenByte) (λ e. by-token (eqb-true b tokenByte e))
+      (λ _. by-pick R (eqb b confirmationByte)
+      (λ e. by-pick R (eqb (length s) 1) (λ l. confirmation (rest-elements 1 0 s (sym (eqb-true (length s) 1 l)) ∙ ap (λ (x : ℕ). x ∷ []) (eqb-true b confirmationByte e))) (λ _. refusal))
       (λ _. refusal))))))
 
 -- ---- from the case to the reading
@@ -191,19 +191,19 @@ starts-read : (classes : ℕ → Class) (s : List ℕ) (f : Format) (at pdu : �
 unfolding readBy sd2Of
 starts-read classes s Sd1 at pdu starts long =
     let some : length s ≡ 0 → ⊥ = λ e. omega arith in
-    let b : getD s 0 0 ≡ 0x10 = start-byte starts 0 (omega (arith, starts .place)) in
+    let b : getD s 0 0 ≡ startByte Sd1 = start-byte starts 0 (omega (arith, starts .place)) in
     simp (ne-eqb _ _ some, b) (ap₂ (framedOf classes s Sd1) (sym (starts .place)) (sym (eqb-true pdu 0 (starts .sized))))
 starts-read classes s Sd3 at pdu starts long =
     let some : length s ≡ 0 → ⊥ = λ e. omega arith in
-    let b : getD s 0 0 ≡ 0xA2 = start-byte starts 0 (omega (arith, starts .place)) in
+    let b : getD s 0 0 ≡ startByte Sd3 = start-byte starts 0 (omega (arith, starts .place)) in
     simp (ne-eqb _ _ some, b) (ap₂ (framedOf classes s Sd3) (sym (starts .place)) (sym (eqb-true pdu 8 (starts .sized))))
 starts-read classes s Sd2 at pdu starts long =
     let some : length s ≡ 0 → ⊥ = λ e. omega arith in
     let four : at ≡ 4 = starts .place in
-    let b : getD s 0 0 ≡ 0x68 = start-byte starts 0 (omega arith) in
+    let b : getD s 0 0 ≡ startByte Sd2 = start-byte starts 0 (omega arith) in
     let le : getD s 1 0 ≡ pdu + 3 = start-byte starts 1 (omega arith) in
     let again : getD s 2 0 ≡ getD s 1 0 = start-byte starts 2 (omega arith) ∙ sym le in
-    let second : getD s 3 0 ≡ 0x68 = start-byte starts 3 (omega arith) in
+    let second : getD s 3 0 ≡ startByte Sd2 = start-byte starts 3 (omega arith) in
     let size : 4 ≤ length s = omega arith in
     let filled : pdu ≡ 0 → ⊥ = eqb-false pdu 0 (not-true _ (and-left (not (eqb pdu 0)) (leb pdu 246) (starts .sized))) in
     let small : pdu ≤ 246 = leb-true pdu 246 (and-right (not (eqb pdu 0)) (leb pdu 246) (starts .sized)) in
