@@ -2,9 +2,14 @@
 ghost use mathlib.Core.Path.{_≡_};
 ghost use Rattle.acyclic.specs.Numbers.{failedBy};
 ghost use Rattle.acyclic_fields.specs.Four.{fourBytes, callFour, answerFour, callNamed, negativeNamed, answerNamed};
+use acyclic::ALARM_ACK;
 use acyclic::Answer;
 use acyclic::Call;
 use acyclic::Failed;
+use acyclic::IDLE;
+use acyclic::READ;
+use acyclic::TRANSPORT;
+use acyclic::WRITE;
 use acyclic_forms::failed_by;
 use acyclic_forms::negative_number;
 
@@ -22,15 +27,15 @@ pub fn call_four(call: Call) -> Four
             slot,
             index,
             length,
-        } => Four(0x5E, slot, index, length),
-        Call::Write { slot, index } => Four(0x5F, slot, index, 0),
+        } => Four(READ, slot, index, length),
+        Call::Write { slot, index } => Four(WRITE, slot, index, 0),
         Call::AlarmAck {
             slot,
             alarm,
             specifier,
-        } => Four(0x5C, slot, alarm, specifier),
-        Call::Idle => Four(0x48, 0, 0, 0),
-        Call::Transport { slot, index } => Four(0x51, slot, index, 0),
+        } => Four(ALARM_ACK, slot, alarm, specifier),
+        Call::Idle => Four(IDLE, 0, 0, 0),
+        Call::Transport { slot, index } => Four(TRANSPORT, slot, index, 0),
     }
 }
 
@@ -39,19 +44,19 @@ pub fn answer_four(answer: Answer) -> Four
     ensures { λ r. ⌜ fourBytes r ≡ answerFour answer ⌝ }
 {
     match answer {
-        Answer::Read { slot, index } => Four(0x5E, slot, index, 0),
+        Answer::Read { slot, index } => Four(READ, slot, index, 0),
         Answer::Write {
             slot,
             index,
             length,
-        } => Four(0x5F, slot, index, length),
+        } => Four(WRITE, slot, index, length),
         Answer::AlarmAck {
             slot,
             alarm,
             specifier,
-        } => Four(0x5C, slot, alarm, specifier),
-        Answer::Idle => Four(0x48, 0, 0, 0),
-        Answer::Transport { slot, index } => Four(0x51, slot, index, 0),
+        } => Four(ALARM_ACK, slot, alarm, specifier),
+        Answer::Idle => Four(IDLE, 0, 0, 0),
+        Answer::Transport { slot, index } => Four(TRANSPORT, slot, index, 0),
         Answer::Negative {
             function,
             decode,
@@ -75,19 +80,19 @@ pub fn call_named(number: u8, slot: u8, index: u8, last: u8) -> Case
 {
     match number {
         0 => Case::Call(Call::Poll),
-        0x5E => Case::Call(Call::Read {
+        READ => Case::Call(Call::Read {
             slot,
             index,
             length: last,
         }),
-        0x5F => Case::Call(Call::Write { slot, index }),
-        0x5C => Case::Call(Call::AlarmAck {
+        WRITE => Case::Call(Call::Write { slot, index }),
+        ALARM_ACK => Case::Call(Call::AlarmAck {
             slot,
             alarm: index,
             specifier: last,
         }),
-        0x48 => Case::Call(Call::Idle),
-        0x51 => Case::Call(Call::Transport { slot, index }),
+        IDLE => Case::Call(Call::Idle),
+        TRANSPORT => Case::Call(Call::Transport { slot, index }),
         _ => Case::Unknown,
     }
 }
@@ -113,19 +118,19 @@ pub fn answer_named(number: u8, slot: u8, index: u8, last: u8) -> Case
     ensures { λ r. ⌜ r ≡ answerNamed number slot index last ⌝ }
 {
     match number {
-        0x5E => Case::Answer(Answer::Read { slot, index }),
-        0x5F => Case::Answer(Answer::Write {
+        READ => Case::Answer(Answer::Read { slot, index }),
+        WRITE => Case::Answer(Answer::Write {
             slot,
             index,
             length: last,
         }),
-        0x5C => Case::Answer(Answer::AlarmAck {
+        ALARM_ACK => Case::Answer(Answer::AlarmAck {
             slot,
             alarm: index,
             specifier: last,
         }),
-        0x48 => Case::Answer(Answer::Idle),
-        0x51 => Case::Answer(Answer::Transport { slot, index }),
+        IDLE => Case::Answer(Answer::Idle),
+        TRANSPORT => Case::Answer(Answer::Transport { slot, index }),
         _ => negative_named(number, slot, index, last),
     }
 }

@@ -1,18 +1,27 @@
 // Function numbers, the first byte of a call or an answer: which are allowed in which way, and those of negative answers.
 ghost use mathlib.Core.Path.{_≡_};
 ghost use Rattle.acyclic.specs.Numbers.{negativeNumber, failedBy, allowedInCalls, allowedInAnswers};
+use acyclic::ALARM_ACK;
 use acyclic::Failed;
 use acyclic::Function;
+use acyclic::IDLE;
+use acyclic::NEGATIVE_ALARM_ACK;
+use acyclic::NEGATIVE_READ;
+use acyclic::NEGATIVE_TRANSPORT;
+use acyclic::NEGATIVE_WRITE;
+use acyclic::READ;
+use acyclic::TRANSPORT;
+use acyclic::WRITE;
 
 // The number of a function's negative answer: its own plus 80 hex.
 pub fn negative_number(function: Function) -> u8
     ensures { λ r. ⌜ r ≡ negativeNumber function ⌝ }
 {
     match function {
-        Function::Read => 0x80 + 0x5E,
-        Function::Write => 0x80 + 0x5F,
-        Function::AlarmAck => 0x80 + 0x5C,
-        Function::Transport => 0x80 + 0x51,
+        Function::Read => NEGATIVE_READ,
+        Function::Write => NEGATIVE_WRITE,
+        Function::AlarmAck => NEGATIVE_ALARM_ACK,
+        Function::Transport => NEGATIVE_TRANSPORT,
     }
 }
 
@@ -21,10 +30,10 @@ pub fn failed_by(number: u8) -> Failed
     ensures { λ r. ⌜ r ≡ failedBy number ⌝ }
 {
     match number {
-        0xDE => Failed::Is(Function::Read),
-        0xDF => Failed::Is(Function::Write),
-        0xDC => Failed::Is(Function::AlarmAck),
-        0xD1 => Failed::Is(Function::Transport),
+        NEGATIVE_READ => Failed::Is(Function::Read),
+        NEGATIVE_WRITE => Failed::Is(Function::Write),
+        NEGATIVE_ALARM_ACK => Failed::Is(Function::AlarmAck),
+        NEGATIVE_TRANSPORT => Failed::Is(Function::Transport),
         _ => Failed::Nothing,
     }
 }
@@ -33,11 +42,11 @@ pub fn allowed_in_calls(number: u8) -> bool
     ensures { λ r. ⌜ r ≡ allowedInCalls number ⌝ }
 {
     match number {
-        0x5E => true,
-        0x5F => true,
-        0x5C => true,
-        0x48 => true,
-        0x51 => true,
+        READ => true,
+        WRITE => true,
+        ALARM_ACK => true,
+        IDLE => true,
+        TRANSPORT => true,
         _ => false,
     }
 }

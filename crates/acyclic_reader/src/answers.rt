@@ -3,10 +3,15 @@ ghost use mathlib.Core.Path.{_≡_};
 ghost use Rattle.acyclic.specs.Forms.{verdictIn};
 ghost use Rattle.acyclic.specs.Numbers.{failedBy};
 ghost use Rattle.acyclic.specs.Answers.{answerAt, negativeFor, fourOf, readAnswerOf};
+use acyclic::ALARM_ACK;
 use acyclic::Answer;
 use acyclic::AnswerReading;
 use acyclic::Check;
 use acyclic::Failed;
+use acyclic::IDLE;
+use acyclic::READ;
+use acyclic::TRANSPORT;
+use acyclic::WRITE;
 use acyclic_forms::allowed_in_answers;
 use acyclic_forms::alone;
 use acyclic_forms::counted_as;
@@ -54,11 +59,11 @@ fn four(number: u8, slot: u8, index: u8, last: u8, count: usize) -> AnswerReadin
     ensures { λ r. ⌜ r ≡ fourOf number slot index last count ⌝ }
 {
     match number {
-        0x5E => {
+        READ => {
             let answer = Answer::Read { slot, index };
             answer_at(4, count, counted_as(last, 0, count), answer)
         }
-        0x5F => {
+        WRITE => {
             let answer = Answer::Write {
                 slot,
                 index,
@@ -66,7 +71,7 @@ fn four(number: u8, slot: u8, index: u8, last: u8, count: usize) -> AnswerReadin
             };
             answer_at(4, count, ranged(last, count), answer)
         }
-        0x5C => {
+        ALARM_ACK => {
             let answer = Answer::AlarmAck {
                 slot,
                 alarm: index,
@@ -74,7 +79,7 @@ fn four(number: u8, slot: u8, index: u8, last: u8, count: usize) -> AnswerReadin
             };
             answer_at(4, count, alone(count), answer)
         }
-        0x51 => {
+        TRANSPORT => {
             let answer = Answer::Transport { slot, index };
             answer_at(4, count, counted_as(last, 0, count), answer)
         }
@@ -93,7 +98,7 @@ pub fn read_answer(bytes: &[u8]) -> AnswerReading
     if !allowed_in_answers(number) {
         return AnswerReading::Refused(Refusal { number: 28 });
     }
-    if number == 0x48 {
+    if number == IDLE {
         let count = bytes.len() - 1;
         return answer_at(1, count, alone(count), Answer::Idle);
     }

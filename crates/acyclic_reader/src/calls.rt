@@ -2,9 +2,14 @@
 ghost use mathlib.Core.Path.{_≡_};
 ghost use Rattle.acyclic.specs.Forms.{verdictIn};
 ghost use Rattle.acyclic.specs.Calls.{callAt, fourOf, readCallOf};
+use acyclic::ALARM_ACK;
 use acyclic::Call;
 use acyclic::CallReading;
 use acyclic::Check;
+use acyclic::IDLE;
+use acyclic::READ;
+use acyclic::TRANSPORT;
+use acyclic::WRITE;
 use acyclic_forms::allowed_in_calls;
 use acyclic_forms::alone;
 use acyclic_forms::counted_as;
@@ -31,7 +36,7 @@ fn four(number: u8, slot: u8, index: u8, last: u8, count: usize) -> CallReading
     ensures { λ r. ⌜ r ≡ fourOf number slot index last count ⌝ }
 {
     match number {
-        0x5E => {
+        READ => {
             let call = Call::Read {
                 slot,
                 index,
@@ -39,11 +44,11 @@ fn four(number: u8, slot: u8, index: u8, last: u8, count: usize) -> CallReading
             };
             call_at(4, count, ranged(last, count), call)
         }
-        0x5F => {
+        WRITE => {
             let call = Call::Write { slot, index };
             call_at(4, count, counted_as(last, 1, count), call)
         }
-        0x5C => {
+        ALARM_ACK => {
             let call = Call::AlarmAck {
                 slot,
                 alarm: index,
@@ -51,7 +56,7 @@ fn four(number: u8, slot: u8, index: u8, last: u8, count: usize) -> CallReading
             };
             call_at(4, count, alone(count), call)
         }
-        0x51 => {
+        TRANSPORT => {
             let call = Call::Transport { slot, index };
             call_at(4, count, counted_as(last, 0, count), call)
         }
@@ -74,7 +79,7 @@ pub fn read_call(bytes: &[u8]) -> CallReading
     if !allowed_in_calls(number) {
         return CallReading::Refused(Refusal { number: 28 });
     }
-    if number == 0x48 {
+    if number == IDLE {
         let count = bytes.len() - 1;
         return call_at(1, count, alone(count), Call::Idle);
     }

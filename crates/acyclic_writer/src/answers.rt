@@ -7,7 +7,12 @@ use crate::forms::Front;
 use crate::forms::write_bare;
 use crate::forms::write_counted;
 use crate::forms::write_four;
+use acyclic::ALARM_ACK;
 use acyclic::Answer;
+use acyclic::IDLE;
+use acyclic::READ;
+use acyclic::TRANSPORT;
+use acyclic::WRITE;
 use acyclic_forms::alone;
 use acyclic_forms::negative;
 use acyclic_forms::negative_number;
@@ -20,13 +25,13 @@ pub fn write_answer(answer: Answer, part: &[u8], out: &mut [u8]) -> Written
     ensures bytes { λ _. ⌜ now (out .exit) ≡ heldBy (verdictFor answer (now (part .entry))) (bytesFor answer (now (part .entry))) (now (out .entry)) ⌝ }
 {
     match answer {
-        Answer::Read { slot, index } => write_counted(0x5E, slot, index, 0, part, out),
+        Answer::Read { slot, index } => write_counted(READ, slot, index, 0, part, out),
         Answer::Write {
             slot,
             index,
             length,
         } => {
-            let front = Front(0x5F, slot, index, length);
+            let front = Front(WRITE, slot, index, length);
             write_four(ranged(length, part.len()), front, part, out)
         }
         Answer::AlarmAck {
@@ -34,11 +39,11 @@ pub fn write_answer(answer: Answer, part: &[u8], out: &mut [u8]) -> Written
             alarm,
             specifier,
         } => {
-            let front = Front(0x5C, slot, alarm, specifier);
+            let front = Front(ALARM_ACK, slot, alarm, specifier);
             write_four(alone(part.len()), front, part, out)
         }
-        Answer::Idle => write_bare(0x48, part, out),
-        Answer::Transport { slot, index } => write_counted(0x51, slot, index, 0, part, out),
+        Answer::Idle => write_bare(IDLE, part, out),
+        Answer::Transport { slot, index } => write_counted(TRANSPORT, slot, index, 0, part, out),
         Answer::Negative {
             function,
             decode,

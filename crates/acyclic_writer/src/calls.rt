@@ -7,7 +7,12 @@ use crate::forms::Front;
 use crate::forms::write_bare;
 use crate::forms::write_counted;
 use crate::forms::write_four;
+use acyclic::ALARM_ACK;
 use acyclic::Call;
+use acyclic::IDLE;
+use acyclic::READ;
+use acyclic::TRANSPORT;
+use acyclic::WRITE;
 use acyclic_forms::alone;
 use acyclic_forms::ranged;
 use octets::Written;
@@ -30,19 +35,19 @@ pub fn write_call(call: Call, part: &[u8], out: &mut [u8]) -> Written
             index,
             length,
         } => {
-            let front = Front(0x5E, slot, index, length);
+            let front = Front(READ, slot, index, length);
             write_four(ranged(length, part.len()), front, part, out)
         }
-        Call::Write { slot, index } => write_counted(0x5F, slot, index, 1, part, out),
+        Call::Write { slot, index } => write_counted(WRITE, slot, index, 1, part, out),
         Call::AlarmAck {
             slot,
             alarm,
             specifier,
         } => {
-            let front = Front(0x5C, slot, alarm, specifier);
+            let front = Front(ALARM_ACK, slot, alarm, specifier);
             write_four(alone(part.len()), front, part, out)
         }
-        Call::Idle => write_bare(0x48, part, out),
-        Call::Transport { slot, index } => write_counted(0x51, slot, index, 0, part, out),
+        Call::Idle => write_bare(IDLE, part, out),
+        Call::Transport { slot, index } => write_counted(TRANSPORT, slot, index, 0, part, out),
     }
 }

@@ -82,7 +82,7 @@ fn put_data(index: u8, body: &[u8], out: &mut [u8]) -> usize
     requires { ⌜ (length (now body) ≤ 240) × (4 + length (now body) ≤ length (now out)) ⌝ }
     ensures { λ r. ⌜ AtFront (bytesFor (content.Dpv1Call (call.Write 1 index)) (now (body .entry))) (now (out .entry)) (now (out .exit)) r ⌝ }
 {
-    out[0] = 0x5F;
+    out[0] = acyclic::WRITE;
     out[1] = 1;
     out[2] = index;
     out[3] = body.len() as u8;

@@ -90,13 +90,13 @@ fn put_result(outcome: Outcome, out: &mut [u8]) -> usize
             index,
             length,
         } => {
-            out[0] = 0x5F;
+            out[0] = acyclic::WRITE;
             out[1] = slot;
             out[2] = index;
             out[3] = length;
         }
         Outcome::Negative { code1, code2 } => {
-            out[0] = 0xDF;
+            out[0] = acyclic::NEGATIVE_WRITE;
             out[1] = 128;
             out[2] = code1;
             out[3] = code2;

@@ -8,26 +8,14 @@ use Rattle.acyclic_forms.proofs.numbers.negative_number.Tie as tie
 enum-told : tie.Need-enum-told
 enum-told c = search needs
 
-add-result : tie.Need-add-result
-add-result c = search needs
-
 enum-told-2 : tie.Need-enum-told-2
 enum-told-2 c = search needs
-
-add-result-2 : tie.Need-add-result-2
-add-result-2 c = search needs
 
 enum-told-3 : tie.Need-enum-told-3
 enum-told-3 c = search needs
 
-add-result-3 : tie.Need-add-result-3
-add-result-3 c = search needs
-
 enum-told-4 : tie.Need-enum-told-4
 enum-told-4 c = search needs
-
-add-result-4 : tie.Need-add-result-4
-add-result-4 c = search needs
 
 returns : tie.Need-returns
 returns c = sym (ap negativeNumber (c .enum-told .given .1))
@@ -44,16 +32,4 @@ returns-4 c = sym (ap negativeNumber (c .enum-told4 .given .1))
 pub negative-number-spec : {M : Type 1} → statement M
 negative-number-spec =
     tie.close
-    (tie.spec
-    enum-told
-    add-result
-    enum-told-2
-    add-result-2
-    enum-told-3
-    add-result-3
-    enum-told-4
-    add-result-4
-    returns
-    returns-2
-    returns-3
-    returns-4)
+    (tie.spec enum-told enum-told-2 enum-told-3 enum-told-4 returns returns-2 returns-3 returns-4)
