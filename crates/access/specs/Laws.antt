@@ -12,8 +12,8 @@ use Rattle.function_code.specs.declared.code.Class.{Class}
 use Rattle.fdl.specs.declared.telegram.Header.{Header}
 use Rattle.fdl.specs.declared.telegram.Sap.{Sap}
 use Rattle.fdl.specs.declared.telegram.Sap.the-variants.{Absent, Present}
-use Rattle.access.specs.Table.{look, services, rowAt, pointsIn, pointsOf}
-use Rattle.access.specs.Route.{pointsWith, namedBy, kindBy, kindOf, isGlobalControl, callRoute, commandRoute, answerFrom, answerRoute, wayBy, routeBy, routeOf, headerBy, headerOf, serviceRoute}
+use Rattle.access.specs.Table.{rowOf, look, services, pointsIn, pointsOf}
+use Rattle.access.specs.Route.{pointsWith, namedBy, kindBy, kindOf, isGlobalControl, callRoute, commandRoute, answererOf, answerFrom, answerRoute, wayBy, routeBy, routeOf, headerBy, headerOf, serviceRoute}
 use Rattle.access.specs.declared.table.Service.{Service}
 use Rattle.access.specs.declared.table.Service.the-variants as service
 use Rattle.access.specs.declared.table.Row.{Row}
@@ -31,7 +31,7 @@ use Rattle.access.specs.declared.route.Route.the-variants as route
 
 -- The access points of a service name it.
 pub points-named : (s : Service) → namedBy (pointsOf s .slave) (pointsOf s .master) ≡ Is s
-unfolding look services rowAt
+unfolding look services
 points-named service.DataExchange = refl
 points-named service.Dpv1 = refl
 points-named service.ExtUserPrm = refl
@@ -62,31 +62,22 @@ abbrev Points-of : (slave master : Sap) → Named → Type 0
 Points-of slave master (Is s) = pointsOf s ≡ pointsWith slave master
 Points-of slave master Nothing = Unit
 
--- the access points of a row's service are the row's
-in-row : {slave master : ℕ} (i : ℕ) → pointsOf (rowAt i .service) ≡ pointsIn (rowAt i) → rowAt i .slave ≡ slave → rowAt i .master ≡ master
-    → Points-of (Present slave) (Present master) (Is (rowAt i .service))
-in-row i p e f = rw (← e, ← f) p
+-- the access points of a service in the list are its row's
+in-row : {slave master : ℕ} (s : Service) → pointsOf s ≡ pointsIn (rowOf s) → rowOf s .slave ≡ slave → rowOf s .master ≡ master
+    → Points-of (Present slave) (Present master) (Is s)
+in-row s p e f = rw (← e, ← f) p
 
 -- A service that a pair names has that pair.
 pub named-points : (slave master : Sap) → Points-of slave master (namedBy slave master)
-unfolding services rowAt
+unfolding services
 named-points Absent Absent = refl
 named-points Absent (Present m) = tt
 named-points (Present s) Absent = tt
 named-points (Present s) (Present m) =
     found-by (Points-of (Present s) (Present m)) s m services tt
-    (in-row 0 refl, (in-row 1 refl, (in-row 2 refl, (in-row 3 refl, (in-row 4 refl, (in-row 5 refl, (in-row 6 refl, (in-row 7 refl, (in-row 8 refl, (in-row 9 refl, tt))))))))))
+    (in-row service.Dpv1 refl, (in-row service.ExtUserPrm refl, (in-row service.SetSlaveAdr refl, (in-row service.RdInp refl, (in-row service.RdOutp refl, (in-row service.GlobalControl refl, (in-row service.GetCfg refl, (in-row service.SlaveDiag refl, (in-row service.SetPrm refl, (in-row service.ChkCfg refl, tt))))))))))
 
 -- ---- headers
-
--- the service that answers
-abbrev pub answererOf : Answering → Service
-answererOf answering.DataExchange = service.DataExchange
-answererOf answering.Dpv1 = service.Dpv1
-answererOf answering.RdInp = service.RdInp
-answererOf answering.RdOutp = service.RdOutp
-answererOf answering.GetCfg = service.GetCfg
-answererOf answering.SlaveDiag = service.SlaveDiag
 
 pub answerer-routed : (a : Answering) → answerFrom (answererOf a) ≡ route.Answer a
 answerer-routed answering.DataExchange = refl
@@ -238,7 +229,6 @@ answersAt (Present slave) Absent = false
 answersAt (Present slave) (Present master) = oneOf slave (51 ∷ 56 ∷ 57 ∷ 59 ∷ 60 ∷ [])
 
 answerer-answers : (a : Answering) → answersAt (pointsOf (answererOf a) .slave) (pointsOf (answererOf a) .master) ≡ true
-unfolding services rowAt
 answerer-answers answering.DataExchange = refl
 answerer-answers answering.Dpv1 = refl
 answerer-answers answering.RdInp = refl

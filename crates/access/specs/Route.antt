@@ -18,6 +18,7 @@ use Rattle.access.specs.declared.table.Named.{Named}
 use Rattle.access.specs.declared.table.Named.the-variants.{Is, Nothing}
 use Rattle.access.specs.declared.route.Kind.{Kind}
 use Rattle.access.specs.declared.route.Kind.the-variants as kind
+use Rattle.access.specs.declared.route.Answering.{Answering}
 use Rattle.access.specs.declared.route.Answering.the-variants as answering
 use Rattle.access.specs.declared.route.Route.{Route}
 use Rattle.access.specs.declared.route.Route.the-variants as route
@@ -71,7 +72,16 @@ abbrev pub commandRoute : Named → Route
 commandRoute Nothing = route.Nowhere
 commandRoute (Is s) = pick (isGlobalControl s) (route.Call s) route.Nowhere
 
--- data answers come only from 56, 57, 59, 60, from 51 and from Data_Exchange
+-- the service that answers
+abbrev pub answererOf : Answering → Service
+answererOf answering.DataExchange = service.DataExchange
+answererOf answering.Dpv1 = service.Dpv1
+answererOf answering.RdInp = service.RdInp
+answererOf answering.RdOutp = service.RdOutp
+answererOf answering.GetCfg = service.GetCfg
+answererOf answering.SlaveDiag = service.SlaveDiag
+
+-- data answers come only from these: 56, 57, 59, 60, 51 and Data_Exchange
 abbrev pub answerFrom : Service → Route
 answerFrom service.DataExchange = route.Answer answering.DataExchange
 answerFrom service.Dpv1 = route.Answer answering.Dpv1

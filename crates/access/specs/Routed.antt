@@ -14,11 +14,11 @@ use Rattle.function_code.specs.declared.code.Class.{Class}
 use Rattle.function_code.specs.declared.code.Class.the-variants as class
 use Rattle.fdl.specs.declared.telegram.Header.{Header}
 use Rattle.fdl.specs.declared.telegram.Sap.{Sap}
-use Rattle.fdl.specs.declared.telegram.Sap.the-variants.{Present}
-use Rattle.access.specs.Table.{look, services, rowAt, pointsOf}
-use Rattle.access.specs.Route.{pointsWith, namedBy, kindBy, kindOf, isGlobalControl, callRoute, commandRoute, answerFrom, answerRoute, wayBy, routeBy, routeOf, headerWith, headerBy, headerOf, serviceRoute}
-use Rattle.access.specs.Laws.{points-named, answererOf, answerer-routed, header-route, Again, header-again}
-use Rattle.access.specs.Headers.{slaveSap, masterSap, CallPoints, AnswerPoints, Calls, opening, counted, function-4, function-6, Answers}
+use Rattle.fdl.specs.declared.telegram.Sap.the-variants.{Absent, Present}
+use Rattle.access.specs.Table.{look, services, pointsOf}
+use Rattle.access.specs.Route.{namedBy, kindBy, kindOf, isGlobalControl, callRoute, commandRoute, answererOf, answerFrom, answerRoute, wayBy, routeBy, routeOf, headerWith, headerBy, headerOf, serviceRoute}
+use Rattle.access.specs.Laws.{points-named, answerer-routed, header-route, Again, header-again}
+use Rattle.access.specs.Headers.{CallPoints, AnswerPoints, Calls, opening, counted, function-4, function-6, Answers}
 use Rattle.access.specs.declared.table.Points.{Points}
 use Rattle.access.specs.declared.table.Named.the-variants.{Is}
 use Rattle.access.specs.declared.table.Service.{Service}
@@ -30,26 +30,8 @@ use Rattle.access.specs.declared.route.Kind.the-variants as kind
 use Rattle.access.specs.declared.route.Route.{Route}
 use Rattle.access.specs.declared.route.Route.the-variants as route
 
--- ---- the list
+-- ---- Global_Control and the others
 
-points-plain : (s : Service) → pointsOf s ≡ pointsWith (slaveSap s) (masterSap s)
-unfolding services rowAt
-points-plain service.DataExchange = refl
-points-plain service.Dpv1 = refl
-points-plain service.ExtUserPrm = refl
-points-plain service.SetSlaveAdr = refl
-points-plain service.RdInp = refl
-points-plain service.RdOutp = refl
-points-plain service.GlobalControl = refl
-points-plain service.GetCfg = refl
-points-plain service.SlaveDiag = refl
-points-plain service.SetPrm = refl
-points-plain service.ChkCfg = refl
-
-named-plain : (s : Service) → namedBy (slaveSap s) (masterSap s) ≡ Is s
-named-plain s = ap (λ (p : Points). namedBy (p .slave) (p .master)) (sym (points-plain s)) ∙ points-named s
-
--- Global_Control and the others
 is-global : (s : Service) → isGlobalControl s ≡ true → s ≡ service.GlobalControl
 is-global service.GlobalControl e = refl
 is-global service.DataExchange e = absurd (never e)
@@ -129,7 +111,7 @@ module _ (h : Header) where
   by-call {s} e p n =
       ap (λ (k : Kind). routeBy k (h .dsap) (h .ssap)) e
       ∙ ap₂ (λ (d m : Sap). callRoute (namedBy d m)) (p .to) (p .from)
-      ∙ ap callRoute (named-plain s)
+      ∙ ap callRoute (points-named s)
       ∙ simp (not-global s n)
 
   by-command : kindOf (h .fc) ≡ kind.Command → CallPoints h service.GlobalControl → routeOf h ≡ route.Call service.GlobalControl
@@ -137,7 +119,7 @@ module _ (h : Header) where
   by-command e p =
       ap (λ (k : Kind). routeBy k (h .dsap) (h .ssap)) e
       ∙ ap₂ (λ (d m : Sap). commandRoute (namedBy d m)) (p .to) (p .from)
-      ∙ ap commandRoute (named-plain service.GlobalControl)
+      ∙ ap commandRoute (points-named service.GlobalControl)
 
   call-routed : {s : Service} → Calls h s → routeOf h ≡ route.Call s
   unfolding kindOf classOf
@@ -151,7 +133,7 @@ module _ (h : Header) where
   answer-routed {a} x =
       ap (λ (c : Class). routeBy (kindBy c (h .fc)) (h .dsap) (h .ssap)) (x .code)
       ∙ ap₂ (λ (d m : Sap). answerRoute (namedBy d m)) (x .points .from) (x .points .to)
-      ∙ ap answerRoute (named-plain (answererOf a))
+      ∙ ap answerRoute (points-named (answererOf a))
       ∙ answerer-routed a
 
 -- ---- from the route to the header
@@ -187,15 +169,15 @@ module _ (h : Header) where
   call-points : {s : Service} → made kind.Call s ≡ h → CallPoints h s
   call-points {s} e =
       record {
-        to = ap (λ (x : Header). x .dsap) (sym e) ∙ ap (λ (p : Points). p .slave) (points-plain s);
-        from = ap (λ (x : Header). x .ssap) (sym e) ∙ ap (λ (p : Points). p .master) (points-plain s);
+        to = ap (λ (x : Header). x .dsap) (sym e);
+        from = ap (λ (x : Header). x .ssap) (sym e);
       }
 
   answer-points : {s : Service} → made kind.Answer s ≡ h → AnswerPoints h s
   answer-points {s} e =
       record {
-        to = ap (λ (x : Header). x .dsap) (sym e) ∙ ap (λ (p : Points). p .master) (points-plain s);
-        from = ap (λ (x : Header). x .ssap) (sym e) ∙ ap (λ (p : Points). p .slave) (points-plain s);
+        to = ap (λ (x : Header). x .dsap) (sym e);
+        from = ap (λ (x : Header). x .ssap) (sym e);
       }
 
   -- what a kind of code says of a header that leads to a call of a service
@@ -288,21 +270,57 @@ module _ (h : Header) where
       by route.Nowhere e = refl
 
 -- The header that a service is written with is the plain one, of a call and of an answer.
-pub call-header : (s : Service) (da sa fc : ℕ) → let h = headerWith da sa fc (slaveSap s) (masterSap s) in Calls h s → headerOf s da sa fc ≡ h
+pub call-header : (s : Service) (da sa fc : ℕ) → let h = headerWith da sa fc (pointsOf s .slave) (pointsOf s .master) in Calls h s → headerOf s da sa fc ≡ h
 call-header s da sa fc c =
-    let h = headerWith da sa fc (slaveSap s) (masterSap s) in
+    let h = headerWith da sa fc (pointsOf s .slave) (pointsOf s .master) in
     subst (Again h) (call-routed h c) (header-again h)
 
 pub answer-header : (a : Answering) (da sa fc : ℕ) →
-    let h = headerWith da sa fc (masterSap (answererOf a)) (slaveSap (answererOf a)) in Answers h a → headerOf (answererOf a) da sa fc ≡ h
+    let h = headerWith da sa fc (pointsOf (answererOf a) .master) (pointsOf (answererOf a) .slave) in Answers h a → headerOf (answererOf a) da sa fc ≡ h
 answer-header a da sa fc x =
-    let h = headerWith da sa fc (masterSap (answererOf a)) (slaveSap (answererOf a)) in
+    let h = headerWith da sa fc (pointsOf (answererOf a) .master) (pointsOf (answererOf a) .slave) in
     subst (Again h) (answer-routed h x) (header-again h)
 
--- Slave_Diag as the controller opens with it, Global_Control, and a diagnosis back.
-pub routes-computed :
-    (routeOf (headerWith 7 2 0x6D (Present 60) (Present 62)) ≡ route.Call service.SlaveDiag)
-    × (routeOf (headerWith 127 2 0x46 (Present 58) (Present 62)) ≡ route.Call service.GlobalControl)
-    × (routeOf (headerWith 2 7 0x0A (Present 62) (Present 60)) ≡ route.Answer answering.SlaveDiag)
+-- ---- every pair of document 01, in plain numbers
+
+-- an opening call from the master's access point to the slave's, and a data answer back
+abbrev called : (slave master : ℕ) → Route
+called slave master = routeOf (headerWith 7 2 0x6D (Present slave) (Present master))
+
+abbrev answered : (slave master : ℕ) → Route
+answered slave master = routeOf (headerWith 2 7 0x0A (Present master) (Present slave))
+
+pub record Pairs : Type 0 where
+  pub dpv1 : (called 51 51 ≡ route.Call service.Dpv1) × (answered 51 51 ≡ route.Answer answering.Dpv1)
+  pub ext-user-prm : (called 53 62 ≡ route.Call service.ExtUserPrm) × (answered 53 62 ≡ route.Nowhere)
+  pub set-slave-adr : (called 55 62 ≡ route.Call service.SetSlaveAdr) × (answered 55 62 ≡ route.Nowhere)
+  pub rd-inp : (called 56 62 ≡ route.Call service.RdInp) × (answered 56 62 ≡ route.Answer answering.RdInp)
+  pub rd-outp : (called 57 62 ≡ route.Call service.RdOutp) × (answered 57 62 ≡ route.Answer answering.RdOutp)
+  pub global-control : (called 58 62 ≡ route.Nowhere) × (answered 58 62 ≡ route.Nowhere)
+  pub get-cfg : (called 59 62 ≡ route.Call service.GetCfg) × (answered 59 62 ≡ route.Answer answering.GetCfg)
+  pub slave-diag : (called 60 62 ≡ route.Call service.SlaveDiag) × (answered 60 62 ≡ route.Answer answering.SlaveDiag)
+  pub set-prm : (called 61 62 ≡ route.Call service.SetPrm) × (answered 61 62 ≡ route.Nowhere)
+  pub chk-cfg : (called 62 62 ≡ route.Call service.ChkCfg) × (answered 62 62 ≡ route.Nowhere)
+  -- Global_Control's own function, and Data_Exchange without access points, both ways
+  pub function-6-broadcast : routeOf (headerWith 127 2 0x46 (Present 58) (Present 62)) ≡ route.Call service.GlobalControl
+  pub no-access-point : routeOf (headerWith 7 2 0x5D Absent Absent) ≡ route.Call service.DataExchange
+  pub no-access-point-back : routeOf (headerWith 2 7 0x08 Absent Absent) ≡ route.Answer answering.DataExchange
+
+pub pairs-routed : Pairs
 unfolding routeOf kindOf classOf look services
-routes-computed = (refl, refl, refl)
+pairs-routed =
+    record {
+      dpv1 = (refl, refl);
+      ext-user-prm = (refl, refl);
+      set-slave-adr = (refl, refl);
+      rd-inp = (refl, refl);
+      rd-outp = (refl, refl);
+      global-control = (refl, refl);
+      get-cfg = (refl, refl);
+      slave-diag = (refl, refl);
+      set-prm = (refl, refl);
+      chk-cfg = (refl, refl);
+      function-6-broadcast = refl;
+      no-access-point = refl;
+      no-access-point-back = refl;
+    }

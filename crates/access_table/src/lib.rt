@@ -3,62 +3,73 @@
 ghost use mathlib.Core.Path.{_≡_};
 ghost use Prim.Native.Nat.{_<_};
 ghost use Rattle.access.specs.Table.{look, services, pointsIn, rowAt, pointsOf};
+use access::CHK_CFG;
+use access::DPV1;
+use access::EXT_USER_PRM;
+use access::GET_CFG;
+use access::GLOBAL_CONTROL;
+use access::MASTER;
 use access::Named;
 use access::Points;
+use access::RD_INP;
+use access::RD_OUTP;
 use access::Row;
+use access::SET_PRM;
+use access::SET_SLAVE_ADR;
+use access::SLAVE_DIAG;
 use access::Service;
 use fdl::Sap;
 
 // DPV1 first, which nearly every telegram of a download carries.
 const SERVICES: [Row; 10] = [
     Row {
-        slave: 51,
-        master: 51,
+        slave: DPV1,
+        master: DPV1,
         service: Service::Dpv1,
     },
     Row {
-        slave: 53,
-        master: 62,
+        slave: EXT_USER_PRM,
+        master: MASTER,
         service: Service::ExtUserPrm,
     },
     Row {
-        slave: 55,
-        master: 62,
+        slave: SET_SLAVE_ADR,
+        master: MASTER,
         service: Service::SetSlaveAdr,
     },
     Row {
-        slave: 56,
-        master: 62,
+        slave: RD_INP,
+        master: MASTER,
         service: Service::RdInp,
     },
     Row {
-        slave: 57,
-        master: 62,
+        slave: RD_OUTP,
+        master: MASTER,
         service: Service::RdOutp,
     },
     Row {
-        slave: 58,
-        master: 62,
+        slave: GLOBAL_CONTROL,
+        master: MASTER,
         service: Service::GlobalControl,
     },
     Row {
-        slave: 59,
-        master: 62,
+        slave: GET_CFG,
+        master: MASTER,
         service: Service::GetCfg,
     },
     Row {
-        slave: 60,
-        master: 62,
+        slave: SLAVE_DIAG,
+        master: MASTER,
         service: Service::SlaveDiag,
     },
     Row {
-        slave: 61,
-        master: 62,
+        slave: SET_PRM,
+        master: MASTER,
         service: Service::SetPrm,
     },
     Row {
-        slave: 62,
-        master: 62,
+        slave: CHK_CFG,
+        master: MASTER,
         service: Service::ChkCfg,
     },
 ];

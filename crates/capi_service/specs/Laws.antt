@@ -28,7 +28,7 @@ use Rattle.parameters.specs.Fields.{extensionVerdict}
 use Rattle.parameters.specs.Reading as parameters-reading
 use Rattle.acyclic.specs.Forms.{countedOf, countedAsOf, byNumber, whereAllowed}
 use Rattle.acyclic.specs.Calls.{fourOf, readCallOf}
-use Rattle.access.specs.Table.{look, services, rowAt}
+use Rattle.access.specs.Table.{look, services}
 use Rattle.access.specs.Route.{kindOf, routeOf, headerOf}
 use Rattle.access.specs.declared.route.Route.{Route}
 use Rattle.access.specs.declared.route.Route.the-variants as route
@@ -125,7 +125,7 @@ pub record Examples : Type 0 where
   pub parameters-written : statusOf (fields-of.answerOf (61 ∷ 0 ∷ 3 ∷ 7 ∷ 2 ∷ 0x5D ∷ 0 ∷ 0 ∷ 8 ∷ 1 ∷ 10 ∷ 11 ∷ 0x12 ∷ 0x34 ∷ 3 ∷ 4 ∷ 1 ∷ 16 ∷ []) 1 [] 21) ≡ 0
 
 pub examples : Examples
-unfolding partOf answerBy classOf checksumOf extensionOf sourceOf destinationOf fieldsOf framedOf sd2Of readBy coreOf telegramOf goodHeader verdictBy goodStatus1 goodStatus2 goodMaster blocksIn extDiagAgrees judge diagnosis.readOf extensionVerdict parameters.verdictOf parameters-reading.readOf countedOf countedAsOf byNumber whereAllowed fourOf readCallOf look services rowAt kindOf routeOf headerOf callOf answerOf bytesFor callVerdict answerVerdict readOf telegramFor verdictOf callNamed rightWay dpv1In diagnosisIn parametersIn contentBy
+unfolding partOf answerBy classOf checksumOf extensionOf sourceOf destinationOf fieldsOf framedOf sd2Of readBy coreOf telegramOf goodHeader verdictBy goodStatus1 goodStatus2 goodMaster blocksIn extDiagAgrees judge diagnosis.readOf extensionVerdict parameters.verdictOf parameters-reading.readOf countedOf countedAsOf byNumber whereAllowed fourOf readCallOf look services kindOf routeOf headerOf callOf answerOf bytesFor callVerdict answerVerdict readOf telegramFor verdictOf callNamed rightWay dpv1In diagnosisIn parametersIn contentBy
 examples =
     record {
       write-read = refl;

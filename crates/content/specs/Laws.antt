@@ -7,13 +7,13 @@ use Rattle.octets.specs.Bytes.{Bytes}
 use Rattle.octets.specs.Part.{partOf}
 use Rattle.octets.specs.Front.{fine}
 use Rattle.octets.specs.declared.Mode.{Mode}
-use Rattle.access.specs.Laws.{answererOf}
+use Rattle.access.specs.Route.{answererOf}
 use Rattle.access.specs.declared.table.Service.{Service}
 use Rattle.access.specs.declared.route.Answering.{Answering}
 use Rattle.content.specs.Fields.{serviceOf, fixedLength, ModeFits, IdentFits, Fits, FitsEvery}
 use Rattle.content.specs.Reading.{endOf, callOf, answerOf}
-use Rattle.content.specs.Writing.{bytesFor, callVerdict, answerVerdict}
-use Rattle.content.specs.Lemmas.Again.{Again, Holds, call-again, answer-again}
+use Rattle.content.specs.Writing.{bytesFor, callVerdict, answerVerdict, Again}
+use Rattle.content.specs.Lemmas.Again.{Holds, call-again, answer-again}
 use Rattle.content.specs.Lemmas.Back.{call-back, answer-back}
 use Rattle.content.specs.Lemmas.Inside as inside
 use Rattle.content.specs.Lemmas.Lengths as lengths

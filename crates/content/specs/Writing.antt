@@ -1,10 +1,12 @@
 -- Writing user data, by their service and their way (document 01, "Services by access point"): their bytes, and the verdict on
 -- them, in which 10 is for the wrong way.
 use Prim.Native.Nat.{ℕ}
+use mathlib.Core.Path.{_≡_}
 use mathlib.Core.List.{List, [], _++_}
 use lib.ListN.{length}
 use lib.Dec.{ltb}
 use Rattle.octets.specs.Choice.{pick}
+use Rattle.octets.specs.Part.{partOf}
 use Rattle.octets.specs.Front.{Verdict, fine, fault}
 use Rattle.acyclic.specs.Answers as answers
 use Rattle.acyclic.specs.Calls as calls
@@ -13,6 +15,8 @@ use Rattle.configuration.specs.Writing as configuration
 use Rattle.control.specs.Command as command
 use Rattle.diagnosis.specs.Writing as diagnosis
 use Rattle.parameters.specs.Writing as parameters
+use Rattle.access.specs.declared.table.Service.{Service}
+use Rattle.content.specs.Fields.{serviceOf, fixedLength}
 use Rattle.content.specs.declared.fields.Content.{Content}
 use Rattle.content.specs.declared.fields.Content.the-variants as content
 
@@ -75,3 +79,14 @@ answerVerdict content.SlaveDiagCall part = fault 10
 answerVerdict (content.SlaveDiag h) part = diagnosis.verdictOf h part
 answerVerdict (content.SetPrm f) part = fault 10
 answerVerdict content.ChkCfg part = fault 10
+
+-- ---- what the laws say of user data that were read
+
+-- A content with len bytes from start, as read from u: it is the service's, it fits what the reader was told, its fields take what
+-- stands before the part, and it may be written with that part and gives the same bytes.
+pub record Again (verdict : Content → List ℕ → Verdict) (Fitting : Content → Type 0) (s : Service) (u : List ℕ) (c : Content) (start len : ℕ) : Type 0 where
+  pub service : serviceOf c ≡ s
+  pub fits : Fitting c
+  pub front : start ≡ fixedLength c
+  pub taken : verdict c (partOf u start len) ≡ fine
+  pub same : bytesFor c (partOf u start len) ≡ u

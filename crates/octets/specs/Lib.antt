@@ -7,3 +7,4 @@ pub mod Front
 pub mod Part
 pub mod Fixed
 pub mod Refusals
+pub mod Places

@@ -16,7 +16,7 @@ use Rattle.diagnosis.specs.Block.{goodCode, channelOf, foundBy}
 use Rattle.diagnosis.specs.Reading as diagnosis
 use Rattle.diagnosis.specs.Reading.{goodStatus1, goodStatus2, goodMaster, blocksIn, extDiagAgrees, judge}
 use Rattle.access.specs.Route.{kindOf, headerOf, routeOf}
-use Rattle.access.specs.Table.{services, look, rowAt}
+use Rattle.access.specs.Table.{services, look}
 use Rattle.acyclic.specs.Numbers.{failedBy}
 use Rattle.acyclic.specs.Answers as answers
 use Rattle.acyclic.specs.Calls as calls
@@ -153,7 +153,7 @@ pub record Rows : Type 0 where
   pub cards-done : DoneAfterSix (turns settings bookBytes (1 ∷ []) diag 7 cards)
 
 pub worked-download : Rows
-unfolding line.run line.transcript partOf classOf extensionOf sourceOf destinationOf tokenOf fieldsOf framedOf sd2Of readBy checksumOf coreOf telegramOf goodCode channelOf foundBy goodStatus1 goodStatus2 goodMaster blocksIn extDiagAgrees judge diagnosis.readOf kindOf headerOf routeOf services look rowAt answers.readAnswerOf answers.fourOf failedBy calls.readCallOf calls.fourOf namedIn goodCode1 aloneOf rangedOf countedOf countedAsOf negativeOf byNumber whereAllowed emptyOf callOf answerOf bytesFor readOf telegramFor heldBehind printer-step.judge askIn receivedOf hear gotIn moveOf download settingsVerdict lineVerdict verdictOf printer-step.verdictOf printer-step.stepOf stateVerdict controller-step.verdictOf controller-step.stepOf turns traffic book.readOf book.bodiesBy tableOf pairOf goodPair
+unfolding line.run line.transcript partOf classOf extensionOf sourceOf destinationOf tokenOf fieldsOf framedOf sd2Of readBy checksumOf coreOf telegramOf goodCode channelOf foundBy goodStatus1 goodStatus2 goodMaster blocksIn extDiagAgrees judge diagnosis.readOf kindOf headerOf routeOf services look answers.readAnswerOf answers.fourOf failedBy calls.readCallOf calls.fourOf namedIn goodCode1 aloneOf rangedOf countedOf countedAsOf negativeOf byNumber whereAllowed emptyOf callOf answerOf bytesFor readOf telegramFor heldBehind printer-step.judge askIn receivedOf hear gotIn moveOf download settingsVerdict lineVerdict verdictOf printer-step.verdictOf printer-step.stepOf stateVerdict controller-step.verdictOf controller-step.stepOf turns traffic book.readOf book.bodiesBy tableOf pairOf goodPair
 worked-download =
     record {
       taken = by;

@@ -22,7 +22,7 @@ use Rattle.fdl.specs.declared.telegram.Format.{Format}
 use Rattle.fdl.specs.declared.telegram.Format.the-variants.{Sd2}
 use Rattle.fdl.specs.declared.telegram.Header.{Header}
 use Rattle.access.specs.Laws.{answersAt}
-use Rattle.access.specs.Table.{look, services, rowAt}
+use Rattle.access.specs.Table.{look, services}
 use Rattle.access.specs.Route.{kindOf, routeOf, headerOf}
 use Rattle.content.specs.Fields.{serviceOf, fixedLength, ModeFits, IdentFits, Fits}
 use Rattle.content.specs.Reading.{callOf}
@@ -96,5 +96,5 @@ pub record Examples : Type 0 where
   pub idle-written : verdictOf Sd2 7 2 0x5C (content.Dpv1Call call.Idle) [] ≡ fine
 
 pub examples : Examples
-unfolding classOf extensionOf sourceOf destinationOf fieldsOf framedOf sd2Of readBy checksumOf goodHeader verdictBy look services rowAt kindOf routeOf headerOf aloneOf byNumber whereAllowed readCallOf partOf callOf bytesFor callVerdict readOf verdictOf
+unfolding classOf extensionOf sourceOf destinationOf fieldsOf framedOf sd2Of readBy checksumOf goodHeader verdictBy look services kindOf routeOf headerOf aloneOf byNumber whereAllowed readCallOf partOf callOf bytesFor callVerdict readOf verdictOf
 examples = record { idle-read = refl; idle-written = refl }

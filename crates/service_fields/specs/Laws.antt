@@ -7,6 +7,7 @@ use native.Mathlib.Omega.{arith}
 use lib.ListN.{getD, take, replicate}
 use lib.Dec.{eqb, ltb}
 use borrow.Author.Tests.{eqb-true}
+use Rattle.octets.specs.Places.{placesOf}
 use Rattle.octets.specs.Choice.{pick, by-pick}
 use Rattle.octets.specs.Bytes.{Bytes}
 use Rattle.octets.specs.Elements.{elements}
@@ -19,6 +20,9 @@ use Rattle.function_code.specs.declared.code.Class.the-variants as class
 use Rattle.fdl.specs.declared.telegram.Header.{Header}
 use Rattle.fdl.specs.declared.telegram.Sap.{Sap}
 use Rattle.fdl.specs.declared.telegram.Sap.the-variants.{Present}
+use Rattle.address_change.specs.declared.AddressChange.{AddressChange}
+use Rattle.control.specs.declared.command.GlobalCommand.{GlobalCommand}
+use Rattle.diagnosis.specs.declared.reading.Header as diagnosis-type
 use Rattle.parameters.specs.Fields as parameters
 use Rattle.parameters.specs.Writing.{fixedBytes, statusBytes}
 use Rattle.parameters.specs.declared.fields.Extension.{Extension}
@@ -28,9 +32,10 @@ use Rattle.acyclic.specs.declared.calls.Call.{Call}
 use Rattle.acyclic.specs.declared.calls.Call.the-variants as call
 use Rattle.acyclic.specs.declared.answers.Answer.{Answer}
 use Rattle.acyclic.specs.declared.answers.Answer.the-variants as answer
-use Rattle.access.specs.Table.{look, services, rowAt}
+use Rattle.access.specs.Table.{serviceNumber, look, services}
 use Rattle.access.specs.Route as access
 use Rattle.access.specs.Route.{isGlobalControl, kindBy, kindOf, callRoute, commandRoute, answerRoute, routeBy, routeOf}
+use Rattle.access.specs.declared.table.Service.{Service}
 use Rattle.access.specs.declared.table.Service.the-variants as service
 use Rattle.access.specs.declared.table.Named as access-named
 use Rattle.access.specs.declared.table.Named.the-variants as listed
@@ -44,7 +49,7 @@ use Rattle.acyclic_fields.specs.Four.{callFour, answerFour, callNamed, answerNa
 use Rattle.acyclic_fields.specs.Laws.{call-four-named, call-named-four, call-named-no-answer, answer-four-named, answer-named-four, answer-named-no-call}
 use Rattle.acyclic_fields.specs.declared.four.Case.{Case}
 use Rattle.acyclic_fields.specs.declared.four.Case.the-variants as case
-use Rattle.service_fields.specs.Service.{serviceNumber, placesOf, contentBytes, fieldsWith, contentPlaces, isAnswer, WayFits, rightWay, namedBy, dpv1In, addressIn, diagnosisIn, modeOf, parametersIn, contentBy, contentIn}
+use Rattle.service_fields.specs.Service.{contentBytes, contentNumber, fieldsWith, contentPlaces, isAnswer, WayFits, rightWay, namedBy, dpv1In, addressIn, diagnosisIn, modeOf, parametersIn, contentBy, contentIn}
 use Rattle.service_fields.specs.declared.Named.{Named}
 use Rattle.service_fields.specs.declared.Named.the-variants as named
 
@@ -145,7 +150,7 @@ module _ (way kind-number da sa fc start len : ℕ) where
 
 -- all that holds of a content that fields name in a version
 pub record Names (fields : List ℕ) (version : ℕ) (c : Content) : Type 0 where
-  pub service : getD fields 0 0 ≡ serviceNumber (serviceOf c)
+  pub service : getD fields 0 0 ≡ contentNumber c
   pub own : elements (contentPlaces c) 8 fields ≡ take (contentPlaces c) (contentBytes c)
   pub way : WayFits c (getD fields 5 0)
   pub fits : Fits c (modeOf version)
@@ -261,7 +266,7 @@ module _ (fields : List ℕ) (version : ℕ) (b : Bytes fields) where
   -- ---- by the service's number
 
   -- a content without fields
-  none : (c : Content) → contentPlaces c ≡ 0 → WayFits c (getD fields 5 0) → Fits c (modeOf version) → getD fields 0 0 ≡ serviceNumber (serviceOf c)
+  none : (c : Content) → contentPlaces c ≡ 0 → WayFits c (getD fields 5 0) → Fits c (modeOf version) → getD fields 0 0 ≡ contentNumber c
       → Names fields version c
   none c p w f n = record { service = n; own = rw p; way = w; fits = f }
 
@@ -269,24 +274,62 @@ module _ (fields : List ℕ) (version : ℕ) (b : Bytes fields) where
   unfolding contentBy
   names =
       let n : ℕ = getD fields 0 0 in
-      let is : (k : ℕ) → eqb n k ≡ true → n ≡ k = eqb-true n in
-      by-pick NamesIn (eqb n 0) (λ e. none content.DataExchange refl tt (tt, tt) (is 0 e))
-      (λ _. by-pick NamesIn (eqb n 51) (λ e. dpv1-names (is 51 e))
-      (λ _. by-pick NamesIn (eqb n 53) (λ e. none content.ExtUserPrm refl tt (tt, tt) (is 53 e))
-      (λ _. by-pick NamesIn (eqb n 55) (λ e. address-names (is 55 e))
-      (λ _. by-pick NamesIn (eqb n 56) (λ e. none content.RdInp refl tt (tt, tt) (is 56 e))
-      (λ _. by-pick NamesIn (eqb n 57) (λ e. none content.RdOutp refl tt (tt, tt) (is 57 e))
-      (λ _. by-pick NamesIn (eqb n 58) (λ e. record { service = is 58 e; own = refl; way = tt; fits = (tt, tt) })
-      (λ _. by-pick NamesIn (eqb n 59) (λ e. none content.GetCfg refl tt (tt, tt) (is 59 e))
-      (λ _. by-pick NamesIn (eqb n 60) (λ e. diagnosis-names (is 60 e))
-      (λ _. by-pick NamesIn (eqb n 61) (λ e. parameters-names (is 61 e))
-      (λ _. by-pick NamesIn (eqb n 62) (λ e. none content.ChkCfg refl tt (tt, tt) (is 62 e))
+      let at : Service → Bool = λ s. eqb n (serviceNumber s) in
+      let is : (s : Service) → at s ≡ true → n ≡ serviceNumber s = λ s. eqb-true n (serviceNumber s) in
+      by-pick NamesIn (at service.DataExchange) (λ e. none content.DataExchange refl tt (tt, tt) (is service.DataExchange e))
+      (λ _. by-pick NamesIn (at service.Dpv1) (λ e. dpv1-names (is service.Dpv1 e))
+      (λ _. by-pick NamesIn (at service.ExtUserPrm) (λ e. none content.ExtUserPrm refl tt (tt, tt) (is service.ExtUserPrm e))
+      (λ _. by-pick NamesIn (at service.SetSlaveAdr) (λ e. address-names (is service.SetSlaveAdr e))
+      (λ _. by-pick NamesIn (at service.RdInp) (λ e. none content.RdInp refl tt (tt, tt) (is service.RdInp e))
+      (λ _. by-pick NamesIn (at service.RdOutp) (λ e. none content.RdOutp refl tt (tt, tt) (is service.RdOutp e))
+      (λ _. by-pick NamesIn (at service.GlobalControl) (λ e. record { service = is service.GlobalControl e; own = refl; way = tt; fits = (tt, tt) })
+      (λ _. by-pick NamesIn (at service.GetCfg) (λ e. none content.GetCfg refl tt (tt, tt) (is service.GetCfg e))
+      (λ _. by-pick NamesIn (at service.SlaveDiag) (λ e. diagnosis-names (is service.SlaveDiag e))
+      (λ _. by-pick NamesIn (at service.SetPrm) (λ e. parameters-names (is service.SetPrm e))
+      (λ _. by-pick NamesIn (at service.ChkCfg) (λ e. none content.ChkCfg refl tt (tt, tt) (is service.ChkCfg e))
       (λ _. by-pick NamesIn (ltb 63 n) (λ _. tt) (λ _. tt))))))))))))
 
   -- A content that fields name is of the service that they name, has them in every place that it has, goes the function code's way
   -- and is of the version.
   pub named-content : {c : Content} → contentIn fields version ≡ named.Content c → Names fields version c
   named-content e = subst NamesIn e names
+
+-- ---- how many places each content has, in plain numbers; a call or answer of DPV1 has those of its case
+
+pub record Places : Type 0 where
+  pub data-exchange : contentPlaces content.DataExchange ≡ 0
+  pub dpv1-call : (c : Call) → contentPlaces (content.Dpv1Call c) ≡ callPlaces c
+  pub dpv1-answer : (x : Answer) → contentPlaces (content.Dpv1Answer x) ≡ answerPlaces x
+  pub ext-user-prm : contentPlaces content.ExtUserPrm ≡ 0
+  pub set-slave-adr : (f : AddressChange) → contentPlaces (content.SetSlaveAdr f) ≡ 4
+  pub rd-inp : contentPlaces content.RdInp ≡ 0
+  pub rd-outp : contentPlaces content.RdOutp ≡ 0
+  pub global-control : (f : GlobalCommand) → contentPlaces (content.GlobalControl f) ≡ 2
+  pub get-cfg : contentPlaces content.GetCfg ≡ 0
+  pub slave-diag-call : contentPlaces content.SlaveDiagCall ≡ 0
+  pub slave-diag : (h : diagnosis-type.Header) → contentPlaces (content.SlaveDiag h) ≡ 6
+  pub set-prm-dpv0 : (f : Parameters) → f .extension ≡ extension.Dpv0 → contentPlaces (content.SetPrm f) ≡ 7
+  pub set-prm-dpv1 : (f : Parameters) {a b c : ℕ} → f .extension ≡ extension.Dpv1 a b c → contentPlaces (content.SetPrm f) ≡ 10
+  pub chk-cfg : contentPlaces content.ChkCfg ≡ 0
+
+pub places-computed : Places
+places-computed =
+    record {
+      data-exchange = refl;
+      dpv1-call = λ _. refl;
+      dpv1-answer = λ _. refl;
+      ext-user-prm = refl;
+      set-slave-adr = λ _. refl;
+      rd-inp = refl;
+      rd-outp = refl;
+      global-control = λ _. refl;
+      get-cfg = refl;
+      slave-diag-call = refl;
+      slave-diag = λ _. refl;
+      set-prm-dpv0 = λ f e. rw e;
+      set-prm-dpv1 = λ f e. rw e;
+      chk-cfg = refl;
+    }
 
 -- ---- the way
 
@@ -363,7 +406,7 @@ pub record Examples : Type 0 where
   pub write-routed : routeOf (record { da = 7; sa = 2; fc = 0x5C; dsap = Present 51; ssap = Present 51 }) ≡ route.Call service.Dpv1
 
 pub examples : Examples
-unfolding classOf look services rowAt kindOf routeOf callNamed contentBy dpv1In diagnosisIn parametersIn
+unfolding classOf look services kindOf routeOf callNamed contentBy dpv1In diagnosisIn parametersIn
 examples =
     record {
       write-named = refl;

@@ -4,11 +4,12 @@
 use Prim.Native.Nat.{ℕ}
 use mathlib.Core.Path.{_≡_}
 use mathlib.Core.Bool.{Bool, true, false}
-use mathlib.Core.List.{List, [], _∷_, _++_}
-use lib.ListN.{getD, take, replicate}
+use mathlib.Core.List.{List, [], _∷_}
+use lib.ListN.{getD}
 use lib.Dec.{eqb, ltb}
 use Rattle.octets.specs.Choice.{pick}
 use Rattle.octets.specs.Number.{numberOf}
+use Rattle.octets.specs.Places.{placesOf}
 use Rattle.octets.specs.declared.Mode.{Mode}
 use Rattle.octets.specs.declared.Mode.the-variants as mode
 use Rattle.function_code.specs.Code.{classOf}
@@ -24,7 +25,7 @@ use Rattle.parameters.specs.Writing as parameters
 use Rattle.parameters.specs.declared.fields.Extension.{Extension}
 use Rattle.parameters.specs.declared.fields.Extension.the-variants as extension
 use Rattle.parameters.specs.declared.fields.Parameters.{Parameters}
-use Rattle.access.specs.declared.table.Service.{Service}
+use Rattle.access.specs.Table.{serviceNumber}
 use Rattle.access.specs.declared.table.Service.the-variants as service
 use Rattle.content.specs.Fields.{serviceOf}
 use Rattle.content.specs.declared.fields.Content.{Content}
@@ -36,25 +37,7 @@ use Rattle.service_fields.specs.declared.Own.{Own}
 use Rattle.service_fields.specs.declared.Named.{Named}
 use Rattle.service_fields.specs.declared.Named.the-variants as named
 
--- the access point at the slave; Data_Exchange has none
-abbrev pub serviceNumber : Service → ℕ
-serviceNumber service.DataExchange = 0
-serviceNumber service.Dpv1 = 51
-serviceNumber service.ExtUserPrm = 53
-serviceNumber service.SetSlaveAdr = 55
-serviceNumber service.RdInp = 56
-serviceNumber service.RdOutp = 57
-serviceNumber service.GlobalControl = 58
-serviceNumber service.GetCfg = 59
-serviceNumber service.SlaveDiag = 60
-serviceNumber service.SetPrm = 61
-serviceNumber service.ChkCfg = 62
-
 -- ---- the service's own fields
-
--- so many places: bytes, and 0 behind them
-abbrev pub placesOf : (count : ℕ) → List ℕ → List ℕ
-placesOf count s = take count (s ++ replicate count 0)
 
 -- the fixed bytes; of DPV1 the four fields that its calls and answers have by themselves
 abbrev pub contentBytes : Content → List ℕ
@@ -72,13 +55,16 @@ contentBytes (content.SlaveDiag h) = diagnosis.headerBytes h
 contentBytes (content.SetPrm f) = parameters.frontBytes f
 contentBytes content.ChkCfg = []
 
--- the service's number, and its own fields
+-- the number of a content's service, and its own fields
+abbrev pub contentNumber : Content → ℕ
+contentNumber c = serviceNumber (serviceOf c)
+
 abbrev pub ownFields : Content → List ℕ
-ownFields c = serviceNumber (serviceOf c) ∷ placesOf 10 (contentBytes c)
+ownFields c = contentNumber c ∷ placesOf 10 (contentBytes c)
 
 -- all eighteen
 abbrev pub fieldsWith : (way kind da sa fc start len : ℕ) → Content → List ℕ
-fieldsWith way kind da sa fc start len c = serviceNumber (serviceOf c) ∷ way ∷ kind ∷ da ∷ sa ∷ fc ∷ start ∷ len ∷ placesOf 10 (contentBytes c)
+fieldsWith way kind da sa fc start len c = contentNumber c ∷ way ∷ kind ∷ da ∷ sa ∷ fc ∷ start ∷ len ∷ placesOf 10 (contentBytes c)
 
 abbrev pub ownBytes : Own → List ℕ
 ownBytes o = o .0 ∷ o .1 ∷ o .2 ∷ o .3 ∷ o .4 ∷ o .5 ∷ o .6 ∷ o .7 ∷ o .8 ∷ o .9 ∷ o .10 ∷ []
@@ -199,17 +185,17 @@ unlistedBy n = pick (ltb 63 n) named.Nothing named.Unlisted
 
 unfoldable pub contentBy : (service : ℕ) (fields : List ℕ) (version : ℕ) → Named
 contentBy n fields version =
-    pick (eqb n 0) (named.Content content.DataExchange)
-    (pick (eqb n 51) (dpv1In fields)
-    (pick (eqb n 53) (named.Content content.ExtUserPrm)
-    (pick (eqb n 55) (named.Content (content.SetSlaveAdr (addressIn fields)))
-    (pick (eqb n 56) (named.Content content.RdInp)
-    (pick (eqb n 57) (named.Content content.RdOutp)
-    (pick (eqb n 58) (named.Content (content.GlobalControl (commandIn fields)))
-    (pick (eqb n 59) (named.Content content.GetCfg)
-    (pick (eqb n 60) (named.Content (diagnosisIn fields))
-    (pick (eqb n 61) (named.Content (content.SetPrm (parametersIn fields version)))
-    (pick (eqb n 62) (named.Content content.ChkCfg) (unlistedBy n)))))))))))
+    pick (eqb n (serviceNumber service.DataExchange)) (named.Content content.DataExchange)
+    (pick (eqb n (serviceNumber service.Dpv1)) (dpv1In fields)
+    (pick (eqb n (serviceNumber service.ExtUserPrm)) (named.Content content.ExtUserPrm)
+    (pick (eqb n (serviceNumber service.SetSlaveAdr)) (named.Content (content.SetSlaveAdr (addressIn fields)))
+    (pick (eqb n (serviceNumber service.RdInp)) (named.Content content.RdInp)
+    (pick (eqb n (serviceNumber service.RdOutp)) (named.Content content.RdOutp)
+    (pick (eqb n (serviceNumber service.GlobalControl)) (named.Content (content.GlobalControl (commandIn fields)))
+    (pick (eqb n (serviceNumber service.GetCfg)) (named.Content content.GetCfg)
+    (pick (eqb n (serviceNumber service.SlaveDiag)) (named.Content (diagnosisIn fields))
+    (pick (eqb n (serviceNumber service.SetPrm)) (named.Content (content.SetPrm (parametersIn fields version)))
+    (pick (eqb n (serviceNumber service.ChkCfg)) (named.Content content.ChkCfg) (unlistedBy n)))))))))))
 
 abbrev pub contentIn : (fields : List ℕ) (version : ℕ) → Named
 contentIn fields version = contentBy (getD fields 0 0) fields version

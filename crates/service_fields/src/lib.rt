@@ -1,10 +1,22 @@
 // A service's own fields, and which content such fields name.
 ghost use mathlib.Core.Path.{_≡_};
 ghost use mathlib.Core.List.{_∷_};
+ghost use Rattle.octets.specs.Places.{placesOf};
 ghost use Rattle.function_code.specs.Code.{classOf};
 ghost use Rattle.parameters.specs.Writing.{statusBytes};
 ghost use Rattle.acyclic_fields.specs.Four.{fourBytes};
-ghost use Rattle.service_fields.specs.Service.{ownBytes, placesOf, ownFields, isAnswer, rightWay, namedBy, dpv1In, diagnosisIn, extensionIn, parametersIn, unlistedBy, contentIn};
+ghost use Rattle.service_fields.specs.Service.{ownBytes, ownFields, isAnswer, rightWay, namedBy, dpv1In, diagnosisIn, extensionIn, parametersIn, unlistedBy, contentIn};
+use access::CHK_CFG;
+use access::DATA_EXCHANGE;
+use access::DPV1;
+use access::EXT_USER_PRM;
+use access::GET_CFG;
+use access::GLOBAL_CONTROL;
+use access::RD_INP;
+use access::RD_OUTP;
+use access::SET_PRM;
+use access::SET_SLAVE_ADR;
+use access::SLAVE_DIAG;
 use acyclic_fields::Case;
 use acyclic_fields::Four;
 use acyclic_fields::answer_four;
@@ -64,7 +76,7 @@ fn parameters_own(fields: Parameters) -> Own
     let extension = fields.extension;
     let status = status_four(extension);
     Own(
-        61,
+        SET_PRM,
         fields.flags,
         fields.factor1,
         fields.factor2,
@@ -83,7 +95,7 @@ fn diagnosis_own(header: Header) -> Own
 {
     let ident = header.ident;
     Own(
-        60,
+        SLAVE_DIAG,
         header.status1,
         header.status2,
         header.status3,
@@ -102,10 +114,10 @@ pub fn own_of(content: Content) -> Own
     ensures { λ r. ⌜ ownBytes r ≡ ownFields content ⌝ }
 {
     match content {
-        Content::DataExchange => led(0, Four(0, 0, 0, 0)),
-        Content::Dpv1Call(call) => led(51, call_four(call)),
-        Content::Dpv1Answer(answer) => led(51, answer_four(answer)),
-        Content::ExtUserPrm => led(53, Four(0, 0, 0, 0)),
+        Content::DataExchange => led(DATA_EXCHANGE, Four(0, 0, 0, 0)),
+        Content::Dpv1Call(call) => led(DPV1, call_four(call)),
+        Content::Dpv1Answer(answer) => led(DPV1, answer_four(answer)),
+        Content::ExtUserPrm => led(EXT_USER_PRM, Four(0, 0, 0, 0)),
         Content::SetSlaveAdr(change) => {
             let ident = change.ident;
             let four = Four(
@@ -114,16 +126,19 @@ pub fn own_of(content: Content) -> Own
                 (ident % 256) as u8,
                 change.locked,
             );
-            led(55, four)
+            led(SET_SLAVE_ADR, four)
         }
-        Content::RdInp => led(56, Four(0, 0, 0, 0)),
-        Content::RdOutp => led(57, Four(0, 0, 0, 0)),
-        Content::GlobalControl(command) => led(58, Four(command.command, command.groups, 0, 0)),
-        Content::GetCfg => led(59, Four(0, 0, 0, 0)),
-        Content::SlaveDiagCall => led(60, Four(0, 0, 0, 0)),
+        Content::RdInp => led(RD_INP, Four(0, 0, 0, 0)),
+        Content::RdOutp => led(RD_OUTP, Four(0, 0, 0, 0)),
+        Content::GlobalControl(command) => led(
+            GLOBAL_CONTROL,
+            Four(command.command, command.groups, 0, 0),
+        ),
+        Content::GetCfg => led(GET_CFG, Four(0, 0, 0, 0)),
+        Content::SlaveDiagCall => led(SLAVE_DIAG, Four(0, 0, 0, 0)),
         Content::SlaveDiag(header) => diagnosis_own(header),
         Content::SetPrm(parameters) => parameters_own(parameters),
-        Content::ChkCfg => led(62, Four(0, 0, 0, 0)),
+        Content::ChkCfg => led(CHK_CFG, Four(0, 0, 0, 0)),
     }
 }
 
@@ -244,24 +259,24 @@ pub fn content_in(fields: &[u8; 18], version: u8) -> Named
 {
     let service = fields[0];
     match service {
-        0 => Named::Content(Content::DataExchange),
-        51 => dpv1_in(fields),
-        53 => Named::Content(Content::ExtUserPrm),
-        55 => Named::Content(Content::SetSlaveAdr(AddressChange {
+        DATA_EXCHANGE => Named::Content(Content::DataExchange),
+        DPV1 => dpv1_in(fields),
+        EXT_USER_PRM => Named::Content(Content::ExtUserPrm),
+        SET_SLAVE_ADR => Named::Content(Content::SetSlaveAdr(AddressChange {
             address: fields[8],
             ident: octets::join16(fields[9], fields[10]),
             locked: fields[11],
         })),
-        56 => Named::Content(Content::RdInp),
-        57 => Named::Content(Content::RdOutp),
-        58 => Named::Content(Content::GlobalControl(GlobalCommand {
+        RD_INP => Named::Content(Content::RdInp),
+        RD_OUTP => Named::Content(Content::RdOutp),
+        GLOBAL_CONTROL => Named::Content(Content::GlobalControl(GlobalCommand {
             command: fields[8],
             groups: fields[9],
         })),
-        59 => Named::Content(Content::GetCfg),
-        60 => Named::Content(diagnosis_in(fields)),
-        61 => Named::Content(Content::SetPrm(parameters_in(fields, version))),
-        62 => Named::Content(Content::ChkCfg),
+        GET_CFG => Named::Content(Content::GetCfg),
+        SLAVE_DIAG => Named::Content(diagnosis_in(fields)),
+        SET_PRM => Named::Content(Content::SetPrm(parameters_in(fields, version))),
+        CHK_CFG => Named::Content(Content::ChkCfg),
         _ => unlisted_by(service),
     }
 }

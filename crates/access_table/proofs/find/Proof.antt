@@ -8,7 +8,7 @@ use lib.Seq.{drop-cons}
 use lib.ListN.{drop, getD, length}
 use borrow.Author.Tests.{eq-eqb, ne-eqb}
 use Rattle.octets.specs.Choice.{pick}
-use Rattle.access.specs.Table.{look, services, row, rowAt}
+use Rattle.access.specs.Table.{rowOf, look, services, rowAt}
 use Rattle.access.specs.declared.table.Row.{Row}
 use Rattle.access.specs.declared.table.Service.the-variants.{DataExchange}
 use Rattle.access.specs.declared.table.Named.the-variants.{Is}
@@ -22,11 +22,11 @@ abbrev μ-loop : tie.MeasureT-loop
 μ-loop slave master rows named₀ i₀ named i = i
 
 row-before : (rows : List Row) (i : ℕ) → 0 < i → i ≤ length rows
-    → drop (i - 1) rows ≡ getD rows (i - 1) (row 0 0 DataExchange) ∷ drop i rows
+    → drop (i - 1) rows ≡ getD rows (i - 1) (rowOf DataExchange) ∷ drop i rows
 row-before rows i h k =
     let e : suc (i - 1) ≡ i = omega arith in
     let f : i - 1 < length rows = omega arith in
-    rw e at (drop-cons rows (i - 1) (row 0 0 DataExchange) f)
+    rw e at (drop-cons rows (i - 1) (rowOf DataExchange) f)
 
 -- one row more in front
 next : (s m i : ℕ) → 0 < i → i ≤ 10 →

@@ -1,5 +1,6 @@
 -- `access_table::points_of` meets its contract: each service has its row.
 use borrow.Author.Needs.{needs}
+use Rattle.access.specs.Table.{services, rowAt}
 use Rattle.access_table.proofs.points_of.Statement.{statement}
 use Rattle.access_table.proofs.points_of.Tie as tie
 
@@ -70,33 +71,43 @@ returns : tie.Need-returns
 returns c = simp (c .enum-told .given .1)
 
 returns-2 : tie.Need-returns-2
+unfolding rowAt services
 returns-2 c = simp (c .before .enum-told2 .given .1) (c .points-at .ensures)
 
 returns-3 : tie.Need-returns-3
+unfolding rowAt services
 returns-3 c = simp (c .before .enum-told3 .given .1) (c .points-at2 .ensures)
 
 returns-4 : tie.Need-returns-4
+unfolding rowAt services
 returns-4 c = simp (c .before .enum-told4 .given .1) (c .points-at3 .ensures)
 
 returns-5 : tie.Need-returns-5
+unfolding rowAt services
 returns-5 c = simp (c .before .enum-told5 .given .1) (c .points-at4 .ensures)
 
 returns-6 : tie.Need-returns-6
+unfolding rowAt services
 returns-6 c = simp (c .before .enum-told6 .given .1) (c .points-at5 .ensures)
 
 returns-7 : tie.Need-returns-7
+unfolding rowAt services
 returns-7 c = simp (c .before .enum-told7 .given .1) (c .points-at6 .ensures)
 
 returns-8 : tie.Need-returns-8
+unfolding rowAt services
 returns-8 c = simp (c .before .enum-told8 .given .1) (c .points-at7 .ensures)
 
 returns-9 : tie.Need-returns-9
+unfolding rowAt services
 returns-9 c = simp (c .before .enum-told9 .given .1) (c .points-at8 .ensures)
 
 returns-10 : tie.Need-returns-10
+unfolding rowAt services
 returns-10 c = simp (c .before .enum-told10 .given .1) (c .points-at9 .ensures)
 
 returns-11 : tie.Need-returns-11
+unfolding rowAt services
 returns-11 c = simp (c .before .enum-told11 .given .1) (c .points-at10 .ensures)
 
 pub points-of-spec : {M : Type 1} → statement M

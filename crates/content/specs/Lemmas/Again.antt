@@ -49,28 +49,19 @@ use Rattle.parameters.specs.Laws as parameters
 use Rattle.parameters.specs.Reading.{extensionIn, fieldsIn as parametersFields, readOf as readParameters}
 use Rattle.parameters.specs.declared.reading.Reading as parameters-type
 use Rattle.parameters.specs.declared.reading.Reading.the-variants as parameters-reading
-use Rattle.access.specs.Laws.{answererOf}
+use Rattle.access.specs.Route.{answererOf}
 use Rattle.access.specs.declared.table.Service.{Service}
 use Rattle.access.specs.declared.table.Service.the-variants as service
 use Rattle.access.specs.declared.route.Answering.{Answering}
 use Rattle.access.specs.declared.route.Answering.the-variants as answering
 use Rattle.content.specs.Fields.{serviceOf, fixedLength, IdentFits, Fits, FitsEvery}
 use Rattle.content.specs.Reading.{refused, plainOf, emptyOf, addressIn, commandIn, diagnosisIn, parametersIn, configurationIn, dpv1CallIn, dpv1AnswerIn, callOf, answerOf}
-use Rattle.content.specs.Writing.{bytesFor, atMost, callVerdict, answerVerdict}
+use Rattle.content.specs.Writing.{bytesFor, atMost, callVerdict, answerVerdict, Again}
 use Rattle.content.specs.Lemmas.Lengths.{bytes-long}
 use Rattle.content.specs.declared.fields.Content.{Content}
 use Rattle.content.specs.declared.fields.Content.the-variants as content
 use Rattle.content.specs.declared.reading.UserData.{UserData}
 use Rattle.content.specs.declared.reading.UserData.the-variants.{Is, Refused}
-
--- A content with len bytes from start, as read from u: it is the service's, it fits what the reader was told, its fields take what
--- stands before the part, and it may be written with that part and gives the same bytes.
-pub record Again (verdict : Content → List ℕ → Verdict) (Fitting : Content → Type 0) (s : Service) (u : List ℕ) (c : Content) (start len : ℕ) : Type 0 where
-  pub service : serviceOf c ≡ s
-  pub fits : Fitting c
-  pub front : start ≡ fixedLength c
-  pub taken : verdict c (partOf u start len) ≡ fine
-  pub same : bytesFor c (partOf u start len) ≡ u
 
 -- where user data have a content, this holds of it and its part
 abbrev pub Holds : (Content → (start len : ℕ) → Type 0) → UserData → Type 0

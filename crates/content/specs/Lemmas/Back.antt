@@ -29,8 +29,8 @@ use Rattle.diagnosis.specs.declared.reading.Header.{Header}
 use Rattle.diagnosis.specs.declared.reading.Reading as diagnosis-type
 use Rattle.diagnosis.specs.declared.reading.Reading.the-variants as diagnosis-reading
 use Rattle.parameters.specs.Laws as parameters
-use Rattle.access.specs.Laws.{answererOf, answerer-routed}
-use Rattle.access.specs.Route.{answerFrom}
+use Rattle.access.specs.Laws.{answerer-routed}
+use Rattle.access.specs.Route.{answererOf, answerFrom}
 use Rattle.access.specs.declared.route.Answering.{Answering}
 use Rattle.access.specs.declared.route.Answering.the-variants as answering
 use Rattle.access.specs.declared.route.Route.the-variants as route

@@ -22,7 +22,7 @@ use Rattle.fdl.specs.declared.telegram.Format.the-variants.{Sd2}
 use Rattle.fdl.specs.declared.telegram.Header.{Header}
 use Rattle.fdl.specs.declared.telegram.Sap.the-variants.{Present}
 use Rattle.fdl.specs.declared.reading.Reading.the-variants as telegram-reading
-use Rattle.access.specs.Table.{services, look, rowAt}
+use Rattle.access.specs.Table.{services, look}
 use Rattle.access.specs.Route.{headerOf, headerWith, routeOf, kindOf}
 use Rattle.access.specs.declared.route.Answering.the-variants as answering
 use Rattle.access.specs.declared.route.Route.{Route}
@@ -50,20 +50,20 @@ use Rattle.protocol.specs.declared.printer.Outcome.{Outcome}
 
 module _ (to from : ℕ) where
   pub opening-header : headerOf service.SlaveDiag to from openingCode ≡ headerWith to from openingCode (Present 60) (Present 62)
-  unfolding headerOf kindOf classOf rowAt services
+  unfolding headerOf kindOf classOf
   opening-header = refl
 
   pub counted-header : (fcb : Bool) → headerOf service.Dpv1 to from (countedCode fcb) ≡ headerWith to from (countedCode fcb) (Present 51) (Present 51)
-  unfolding headerOf kindOf classOf rowAt services
+  unfolding headerOf kindOf classOf
   counted-header false = refl
   counted-header true = refl
 
   pub diagnosis-header : headerOf service.SlaveDiag to from replyCode ≡ headerWith to from replyCode (Present 62) (Present 60)
-  unfolding headerOf kindOf classOf rowAt services
+  unfolding headerOf kindOf classOf
   diagnosis-header = refl
 
   pub result-header : headerOf service.Dpv1 to from replyCode ≡ headerWith to from replyCode (Present 51) (Present 51)
-  unfolding headerOf kindOf classOf rowAt services
+  unfolding headerOf kindOf classOf
   result-header = refl
 
   -- their routes

@@ -27,7 +27,7 @@ use Rattle.fdl.specs.declared.telegram.Format.the-variants.{Sd2}
 use Rattle.fdl.specs.declared.telegram.Header.{Header}
 use Rattle.fdl.specs.declared.telegram.Sap.the-variants.{Present}
 use Rattle.access.specs.Laws as access-laws
-use Rattle.access.specs.Route.{kindOf, namedBy, answerRoute, routeOf, headerOf, headerWith}
+use Rattle.access.specs.Route.{kindOf, namedBy, answererOf, answerRoute, routeOf, headerOf, headerWith}
 use Rattle.access.specs.Table.{services, look}
 use Rattle.access.specs.declared.route.Answering.{Answering}
 use Rattle.access.specs.declared.route.Answering.the-variants as answering
@@ -166,7 +166,7 @@ module _ (c : Settings) (s : List ℕ) where
         by-dpv1 (answer-reading.Refused r) e = tt
 
       -- the header that leads to a service is the one that its telegram has
-      led : {a : Answering} → routeOf h ≡ route.Answer a → headerOf (access-laws.answererOf a) (h .da) (h .sa) (h .fc) ≡ h
+      led : {a : Answering} → routeOf h ≡ route.Answer a → headerOf (answererOf a) (h .da) (h .sa) (h .fc) ≡ h
       led e = subst (access-laws.Again h) e (access-laws.header-again h)
 
       by-named : (n : Named) → routeOf h ≡ answerRoute n → Only (gotBy (routedBy (answerRoute n) f h start user mode.Dpv1))

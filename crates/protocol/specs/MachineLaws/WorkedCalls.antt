@@ -16,7 +16,7 @@ use Rattle.fdl.specs.declared.telegram.Format.the-variants.{Sd1, Sd2}
 use Rattle.fdl.specs.declared.telegram.Header.{Header}
 use Rattle.fdl.specs.declared.telegram.Sap.the-variants.{Absent, Present}
 use Rattle.access.specs.Route.{kindOf, headerOf, headerWith, routeOf}
-use Rattle.access.specs.Table.{services, look, rowAt}
+use Rattle.access.specs.Table.{services, look}
 use Rattle.acyclic.specs.Calls as calls
 use Rattle.acyclic.specs.Forms.{aloneOf, countedOf, countedAsOf, byNumber, whereAllowed}
 use Rattle.acyclic.specs.declared.calls.Call.the-variants as call
@@ -126,7 +126,7 @@ pub record Rows : Type 0 where
   pub opening-write : sentBack openingWrite idle ≡ 0x10 ∷ 0x02 ∷ 0x07 ∷ 0x03 ∷ 0x0C ∷ 0x16 ∷ []
 
 pub worked-calls : Rows
-unfolding partOf classOf extensionOf sourceOf destinationOf fieldsOf framedOf sd2Of readBy checksumOf coreOf telegramOf kindOf headerOf routeOf services look rowAt calls.readCallOf calls.fourOf aloneOf countedOf countedAsOf byNumber whereAllowed emptyOf callOf bytesFor readOf telegramFor heldBehind judge askIn receivedOf hear
+unfolding partOf classOf extensionOf sourceOf destinationOf fieldsOf framedOf sd2Of readBy checksumOf coreOf telegramOf kindOf headerOf routeOf services look calls.readCallOf calls.fourOf aloneOf countedOf countedAsOf byNumber whereAllowed emptyOf callOf bytesFor readOf telegramFor heldBehind judge askIn receivedOf hear
 worked-calls =
     record {
       status = refl;

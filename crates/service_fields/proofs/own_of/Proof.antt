@@ -2,7 +2,8 @@
 use mathlib.Core.Path.{_≡_, refl, sym, ap, _∙_}
 use mathlib.Core.List.{List, [], _∷_, _++_}
 use Prim.Native.Nat.{ℕ}
-use Rattle.service_fields.specs.Service.{placesOf, ownFields}
+use Rattle.octets.specs.Places.{placesOf}
+use Rattle.service_fields.specs.Service.{ownFields}
 use borrow.Author.Needs.{needs}
 use Rattle.service_fields.proofs.own_of.Statement.{statement}
 use Rattle.service_fields.proofs.own_of.Tie as tie

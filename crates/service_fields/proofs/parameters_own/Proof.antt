@@ -6,7 +6,7 @@ use lib.ListN.{take, replicate}
 use Rattle.parameters.specs.Writing.{statusBytes, fixedBytes}
 use Rattle.parameters.specs.declared.fields.Extension.{Extension}
 use Rattle.parameters.specs.declared.fields.Extension.the-variants.{Dpv0, Dpv1}
-use Rattle.service_fields.specs.Service.{placesOf}
+use Rattle.octets.specs.Places.{placesOf}
 use borrow.Author.Needs.{needs}
 use Rattle.service_fields.proofs.parameters_own.Statement.{statement}
 use Rattle.service_fields.proofs.parameters_own.Tie as tie
