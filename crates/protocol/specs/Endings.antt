@@ -1,6 +1,7 @@
--- The endings of a download, as tests. A template is counted from 1.
+-- The endings of a download: as tests, and the number and the values of each. A template is counted from 1.
 use Prim.Native.Nat.{ℕ}
 use mathlib.Core.Bool.{Bool, true, false}
+use mathlib.Core.List.{List, [], _∷_}
 use lib.Dec.{eqb}
 use Rattle.octets.specs.Choice.{_and_}
 use Rattle.protocol.specs.declared.controller.Ending.{Ending}
@@ -62,3 +63,23 @@ stopsAt k (ending.NoAnswer n) = eqb n k
 stopsAt k (ending.NotReady n) = eqb n k
 stopsAt k (ending.Refused n code1 code2) = eqb n k
 stopsAt k (ending.Strange n) = eqb n k
+
+-- ---- the number and the values of each ending
+
+-- its number, in document 01's order; 0 is left for a download that has not ended
+abbrev pub endingNumber : Ending → ℕ
+endingNumber ending.Done = 1
+endingNumber ending.NoOpening = 2
+endingNumber (ending.NoAnswer n) = 3
+endingNumber (ending.NotReady n) = 4
+endingNumber (ending.Refused n code1 code2) = 5
+endingNumber (ending.Strange n) = 6
+
+-- the template, and both codes of a refusal
+abbrev pub endingValues : Ending → List ℕ
+endingValues ending.Done = []
+endingValues ending.NoOpening = []
+endingValues (ending.NoAnswer n) = n ∷ []
+endingValues (ending.NotReady n) = n ∷ []
+endingValues (ending.Refused n code1 code2) = n ∷ code1 ∷ code2 ∷ []
+endingValues (ending.Strange n) = n ∷ []

@@ -22,10 +22,10 @@ enum-known-how-4 : tie.Need-enum-known-how-4
 enum-known-how-4 c = search needs
 
 returns : tie.Need-returns
-returns c = search needs
+returns c = simp (c .before .enum-told .given .1)
 
 returns-2 : tie.Need-returns-2
-returns-2 c = search needs
+returns-2 c = simp (c .before .enum-told2 .given .1)
 
 returns-3 : tie.Need-returns-3
 returns-3 c = simp (c .before .before .how .given .1)
