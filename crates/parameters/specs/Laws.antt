@@ -11,9 +11,9 @@ use Rattle.octets.specs.Fixed.{judged}
 use Rattle.octets.specs.declared.Mode.{Mode}
 use Rattle.parameters.specs.Fields.{modeOf}
 use Rattle.parameters.specs.Reading.{refused, readOf}
-use Rattle.parameters.specs.Writing.{bytesFor, userStart, verdictFor}
+use Rattle.parameters.specs.Writing.{bytesFor, userStart, verdictFor, Again}
 use Rattle.parameters.specs.Lemmas.Back.{alike, user-back}
-use Rattle.parameters.specs.Lemmas.Again.{Again, AgainIn, again}
+use Rattle.parameters.specs.Lemmas.Again.{AgainIn, again}
 use Rattle.parameters.specs.declared.fields.Parameters.{Parameters}
 use Rattle.parameters.specs.declared.reading.Reading.the-variants as reading
 

@@ -4,7 +4,7 @@ use mathlib.Core.List.{List}
 use Prim.Native.Nat.{ℕ, _≤_}
 use lib.ListN.{length}
 use Rattle.octets.specs.Front.{over}
-use Rattle.protocol.specs.Lemmas.Replies.{Valid}
+use Rattle.protocol.specs.Verdicts.{Valid}
 use Rattle.protocol.specs.declared.printer.Printer.{Printer}
 use Rattle.protocol.specs.declared.printer.Reaction.{Reaction}
 use Rattle.protocol.specs.declared.printer.Reaction.the-variants as reaction

@@ -25,7 +25,8 @@ use Rattle.protocol.specs.Words.{anyOf, heard, answered, failed, request
 use Rattle.protocol.specs.Course.{Course, course, concat}
 use Rattle.protocol.specs.Demand.{At, NotRefused, Demand3, final, all, New, Old, writeHeard, Downloads}
 use Rattle.protocol.specs.Lemmas.Read.{opening-asked}
-use Rattle.protocol.specs.Lemmas.Replies.{Valid, valid}
+use Rattle.protocol.specs.Verdicts.{Valid}
+use Rattle.protocol.specs.Lemmas.Replies.{valid}
 use Rattle.protocol.specs.Lemmas.Runs.{run-stop, run-keeps, transcript-add, transcript-stop, transcript-take, transcript-short, sent-counts, run-line, settles, damage-rest, damage-is-loss}
 use Rattle.protocol.specs.Lemmas.Groups.{Apart, block-in, blocks-alone, Templates, templates-in, no-openings, Each, each-at}
 use Rattle.protocol.specs.Lemmas.Chain.{apart-take, chain-ran, chain-sent, chain-counts}

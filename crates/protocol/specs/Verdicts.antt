@@ -9,6 +9,7 @@ use lib.ListN.{length, getD}
 use Rattle.octets.specs.Front.{fine}
 use Rattle.octets.specs.declared.Refusal.{Refusal}
 use Rattle.diagnosis.specs.Reading as diagnosis-format
+use Rattle.diagnosis.specs.declared.reading.Header.{Header}
 use Rattle.diagnosis.specs.declared.reading.Reading.the-variants as diagnosis-reading
 use Rattle.book.specs.Contents.{templatesOf}
 use Rattle.book.specs.Reading as book-format
@@ -37,6 +38,12 @@ Readable s = (r : Refusal) → book-format.readOf s ≡ book-reading.Refused r �
 
 abbrev pub Diagnosed : (diagnosis : List ℕ) → Type 0
 Diagnosed s = (r : Refusal) → diagnosis-format.readOf s ≡ diagnosis-reading.Refused r → ⊥
+
+-- a diagnosis with what it is read as
+pub record Valid (diag : List ℕ) : Type 0 where
+  pub header : Header
+  pub blocks : ℕ
+  pub read : diagnosis-format.readOf diag ≡ diagnosis-reading.Diagnosis header blocks
 
 -- a printer: "A printer address above 126, a slot length above 200 or a refused diagnosis gives 12, a reply buffer under 255
 -- bytes 11"

@@ -15,17 +15,11 @@ use Rattle.octets.specs.declared.Mode.{Mode}
 use Rattle.octets.specs.declared.Mode.the-variants as mode
 use Rattle.parameters.specs.Fields.{modeOf, fixedLength, verdictOf}
 use Rattle.parameters.specs.Reading.{extensionIn, fieldsIn, readOf}
-use Rattle.parameters.specs.Writing.{fixedBytes, frontBytes, bytesFor, verdictFor}
+use Rattle.parameters.specs.Writing.{fixedBytes, frontBytes, bytesFor, verdictFor, Again}
 use Rattle.parameters.specs.declared.fields.Extension.{Extension}
 use Rattle.parameters.specs.declared.fields.Parameters.{Parameters}
 use Rattle.parameters.specs.declared.reading.Reading.{Reading}
 use Rattle.parameters.specs.declared.reading.Reading.the-variants as reading
-
--- fields and user bytes that are s in the version m
-pub record Again (s : List ℕ) (m : Mode) (f : Parameters) (user : List ℕ) : Type 0 where
-  pub mode : modeOf (f .extension) ≡ m
-  pub taken : verdictFor f user ≡ fine
-  pub same : bytesFor f user ≡ s
 
 mode-again : (s : List ℕ) (m : Mode) → modeOf (extensionIn s m) ≡ m
 mode-again s mode.Dpv0 = refl

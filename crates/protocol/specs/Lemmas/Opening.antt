@@ -18,7 +18,8 @@ use Rattle.protocol.specs.Controller.{Move, moveOf, askFor}
 use Rattle.protocol.specs.Download.{Given, hears, steps, begin}
 use Rattle.protocol.specs.Words.{arrives, namesStation, heard, answered, FramingRefuses}
 use Rattle.protocol.specs.Lemmas.Read.{opening-received, opening-names}
-use Rattle.protocol.specs.Lemmas.Replies.{Valid, got-diagnosis, diagnosis-framed}
+use Rattle.protocol.specs.Verdicts.{Valid}
+use Rattle.protocol.specs.Lemmas.Replies.{got-diagnosis, diagnosis-framed}
 use Rattle.protocol.specs.Lemmas.Hearing.{stored-sent}
 use Rattle.protocol.specs.Lemmas.Runs.{at, damage-first}
 use Rattle.protocol.specs.Lemmas.Ours.{ignores, got-bad, stand}

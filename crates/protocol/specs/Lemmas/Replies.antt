@@ -24,7 +24,6 @@ use Rattle.access.specs.Route.{headerOf}
 use Rattle.access.specs.declared.table.Service.the-variants as service
 use Rattle.diagnosis.specs.Laws.{read-is-tiled}
 use Rattle.diagnosis.specs.Reading as diagnosis-format
-use Rattle.diagnosis.specs.declared.reading.Header as diagnosis-header-type
 use Rattle.diagnosis.specs.declared.reading.Reading as diagnosis-type
 use Rattle.diagnosis.specs.declared.reading.Reading.the-variants as diagnosis-reading
 use Rattle.acyclic.specs.Answers as answers
@@ -39,16 +38,12 @@ use Rattle.protocol.specs.Telegrams.{replyCode, diagnosisBytes, outcomeB
 use Rattle.protocol.specs.Telegrams as telegrams
 use Rattle.protocol.specs.Printer.{isRefused}
 use Rattle.protocol.specs.Controller.{Got, nothing, confirmation, diagnosis, positive, negative, isPrinters, gotOf, gotBy, gotFrom, gotIn}
+use Rattle.protocol.specs.Verdicts.{Valid}
 use Rattle.protocol.specs.declared.controller.Settings.{Settings}
 use Rattle.protocol.specs.declared.printer.Outcome.{Outcome}
 use Rattle.protocol.specs.declared.printer.Outcome.the-variants as outcome
 
--- a diagnosis that is not refused
-pub record Valid (diag : List ℕ) : Type 0 where
-  pub header : diagnosis-header-type.Header
-  pub blocks : ℕ
-  pub read : diagnosis-format.readOf diag ≡ diagnosis-reading.Diagnosis header blocks
-
+-- a diagnosis that is not refused is valid
 pub valid : (diag : List ℕ) → isRefused (diagnosis-format.readOf diag) ≡ false → Valid diag
 valid diag e = by (diagnosis-format.readOf diag) refl e
   where

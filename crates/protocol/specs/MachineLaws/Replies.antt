@@ -38,7 +38,8 @@ use Rattle.service.specs.declared.reading.Reading.the-variants as service-readi
 use Rattle.service.specs.declared.reading.Way.the-variants as way
 use Rattle.protocol.specs.Slots.{Slots}
 use Rattle.protocol.specs.Lemmas.Read.{outcome-fine, result-header, result-route}
-use Rattle.protocol.specs.Lemmas.Replies.{Valid, diagnosis-read}
+use Rattle.protocol.specs.Verdicts.{Valid}
+use Rattle.protocol.specs.Lemmas.Replies.{diagnosis-read}
 use Rattle.protocol.specs.Lemmas.Hearing.{stored-sent}
 use Rattle.protocol.specs.Telegrams.{answerOf, replyCode}
 use Rattle.protocol.specs.Printer as printer

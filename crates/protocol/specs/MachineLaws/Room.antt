@@ -26,7 +26,7 @@ use Rattle.book.specs.Contents.{Entry, InOrder}
 use Rattle.protocol.specs.Line.{go, stop}
 use Rattle.protocol.specs.Telegrams.{carrying, openingCode, countedCode, replyCode, answerOf}
 use Rattle.protocol.specs.Printer.{Reply, confirmation, bare, diagnosis, result, replyBytes}
-use Rattle.protocol.specs.Lemmas.Replies.{Valid}
+use Rattle.protocol.specs.Verdicts.{Valid}
 use Rattle.protocol.specs.Controller.{Move, requestBytes, moveOf}
 use Rattle.protocol.specs.MachineLaws.Controller.{Sends, opens, asks, ends, fromOne, request-of-state}
 use Rattle.protocol.specs.declared.controller.Controller.{Controller}

@@ -11,7 +11,8 @@ use Rattle.diagnosis.specs.Reading as diagnosis
 use Rattle.protocol.specs.Slots.{Slots, Sized}
 use Rattle.protocol.specs.Printer.{Received, nothing, elsewhere, status, uncounted, opening, counted, receivedOf, Reply, bare, perform, openingReply, Station, Heard, isRepeat, replyBytes, heardBy, hear, verdictOf}
 use Rattle.protocol.specs.Lemmas.Accepted.{unrefused, usable, fine-printer}
-use Rattle.protocol.specs.Lemmas.Replies.{Valid, valid}
+use Rattle.protocol.specs.Verdicts.{Valid}
+use Rattle.protocol.specs.Lemmas.Replies.{valid}
 use Rattle.protocol.specs.Lemmas.Slots.{written-sized}
 use Rattle.protocol.specs.MachineLaws.Memory.{keeps-itself}
 use Rattle.protocol.specs.MachineLaws.Printer.{Changes, kept, stored, slots-change}
