@@ -1,9 +1,11 @@
 -- Diagnosis through the C interface, as numbers. Its fields are six: the three status bytes, the master, the ident number and
 -- the number of blocks. A block is six too: its kind (1 device, 2 module, 3 channel; 0 the end of the blocks), and what it says.
-use Prim.Native.Nat.{ℕ}
+use Prim.Native.Nat.{ℕ, _+_}
 use mathlib.Core.List.{List, [], _∷_}
-use Rattle.diagnosis.specs.declared.map.Lowest.{Lowest}
-use Rattle.diagnosis.specs.declared.map.Lowest.the-variants as lowest
+use Rattle.diagnosis.specs.Block.{kindNumber}
+use Rattle.diagnosis.specs.Map.{lowestNumber}
+use Rattle.diagnosis.specs.declared.block.Kind.{Kind}
+use Rattle.diagnosis.specs.declared.block.Kind.the-variants as kind
 use Rattle.diagnosis.specs.declared.reading.Reading.{Reading}
 use Rattle.diagnosis.specs.declared.reading.Reading.the-variants.{Diagnosis, Refused}
 use Rattle.diagnosis.specs.declared.walk.Block.{Block}
@@ -24,17 +26,16 @@ fieldsAfter (Refused r) before = before
 
 -- ---- one step of the walk over the blocks
 
--- 65535 is no module: the longest map has the modules 0 to 495
-abbrev pub lowestNumber : Lowest → ℕ
-lowestNumber (lowest.Module k) = k
-lowestNumber lowest.Nothing = 65535
+-- a kind's number; 0 is the end of the blocks
+abbrev pub blockNumber : Kind → ℕ
+blockNumber k = 1 + kindNumber k
 
 -- a block's kind, and what it says: the start and length of the bytes behind its header, and of a map the number of set bits
 -- and the lowest reporting module; or the fields of a channel
 abbrev pub blockNumbers : Block → List ℕ
-blockNumbers (Device start len) = 1 ∷ start ∷ len ∷ 0 ∷ 0 ∷ 0 ∷ []
-blockNumbers (Module start len set low) = 2 ∷ start ∷ len ∷ set ∷ lowestNumber low ∷ 0 ∷ []
-blockNumbers (Channel c) = 3 ∷ c .«module» ∷ c .direction ∷ c .channel ∷ c .kind ∷ c .error ∷ []
+blockNumbers (Device start len) = blockNumber kind.Device ∷ start ∷ len ∷ 0 ∷ 0 ∷ 0 ∷ []
+blockNumbers (Module start len set low) = blockNumber kind.Module ∷ start ∷ len ∷ set ∷ lowestNumber low ∷ 0 ∷ []
+blockNumbers (Channel c) = blockNumber kind.Channel ∷ c .«module» ∷ c .direction ∷ c .channel ∷ c .kind ∷ c .error ∷ []
 
 abbrev pub stepRefusal : Step → ℕ
 stepRefusal (step.Block b next) = 0

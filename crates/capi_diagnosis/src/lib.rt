@@ -1,8 +1,9 @@
 // Diagnosis through the C interface: its header, and its blocks one at a time.
 ghost use mathlib.Core.Path.{_≡_};
+ghost use Rattle.diagnosis.specs.Map.{lowestNumber};
 ghost use Rattle.diagnosis.specs.Reading.{readOf};
 ghost use Rattle.diagnosis.specs.Walk.{nextOf};
-ghost use Rattle.capi_diagnosis.specs.Diagnosis.{refusalOf, fieldsAfter, lowestNumber, blockNumbers, stepRefusal, blockAfter, positionAfter};
+ghost use Rattle.capi_diagnosis.specs.Diagnosis.{refusalOf, fieldsAfter, blockNumbers, stepRefusal, blockAfter, positionAfter};
 use diagnosis::Block;
 use diagnosis::Lowest;
 use diagnosis::Position;

@@ -8,12 +8,14 @@ use native.Mathlib.Omega.{arith}
 use native.Mathlib.Nat.{zero-add}
 use borrow.Author.Tests.{eq-eqb}
 use Rattle.octets.specs.Choice.{never}
-use Rattle.diagnosis.specs.Block.{goodCode, channelOf, foundBy}
+use Rattle.diagnosis.specs.Block.{extent, goodCode, sizedOf, channelOf, foundBy, foundAt}
 use Rattle.diagnosis.specs.Reading.{goodStatus1, goodStatus2, goodMaster, blocksIn, extDiagAgrees, judge, headerOf, readOf}
 use Rattle.diagnosis.specs.Contents.{accepted, Walks}
 use Rattle.diagnosis.specs.Bytes.{DiagnosisBytes, IsDiagnosis, BlockBytes}
 use Rattle.diagnosis.specs.Lemmas.Bytes.{header-bytes, status1-good, status2-good, master-good, ext-diag, agrees-good, walk-blocks, blocks-walk}
 use Rattle.diagnosis.specs.Laws.{Tiled, tiled-is-read, read-is-tiled}
+use Rattle.diagnosis.specs.declared.block.Kind.the-variants.{Device, Module, Channel}
+use Rattle.diagnosis.specs.declared.block.Found.the-variants as found
 use Rattle.diagnosis.specs.declared.reading.Count.the-variants as count
 use Rattle.diagnosis.specs.declared.reading.Reading.{Reading}
 use Rattle.diagnosis.specs.declared.reading.Reading.the-variants.{Diagnosis, Refused}
@@ -55,6 +57,14 @@ module _ (s : List ℕ) where
   -- Accepted exactly when it is one with whatever blocks.
   pub diagnosis-accepted : accepted (readOf s) ≡ true ↔ IsDiagnosis s
   diagnosis-accepted = (by-reading (readOf s) refl, λ d. ap accepted (tiled-is-read s (d .count) (bytes-tiled (d .count) (d .bytes))))
+
+-- A device, a module and a channel block are found as what they are.
+pub kinds-computed :
+    (foundAt (2 ∷ 9 ∷ []) 0 ≡ found.Is (extent Device 2))
+    × (foundAt (66 ∷ 9 ∷ []) 0 ≡ found.Is (extent Module 2))
+    × (foundAt (130 ∷ 67 ∷ 38 ∷ []) 0 ≡ found.Is (extent Channel 3))
+unfolding foundBy sizedOf channelOf goodCode
+kinds-computed = (refl, refl, refl)
 
 -- Document 01's worked diagnosis, and one with no block.
 pub diagnoses-computed :

@@ -12,6 +12,20 @@ use Rattle.diagnosis.specs.declared.block.Extent.{Extent}
 use Rattle.diagnosis.specs.declared.block.Found.{Found}
 use Rattle.diagnosis.specs.declared.block.Found.the-variants.{Is, Refused}
 
+-- bits 7-6 of a block's header; 3 is reserved
+abbrev pub kindNumber : Kind → ℕ
+kindNumber Device = 0
+kindNumber Module = 1
+kindNumber Channel = 2
+
+-- byte 2 of a channel block: the direction (1 input, 2 output, 3 both) in bits 7-6, and the channel below them
+abbrev pub directionPlace : ℕ
+directionPlace = 64
+
+-- byte 3 of a channel block: the type in bits 7-5, and the error below them
+abbrev pub typePlace : ℕ
+typePlace = 32
+
 abbrev pub refusal : ℕ → Refusal
 refusal k = record { number = k }
 
@@ -22,7 +36,7 @@ refused k = Refused (refusal k)
 abbrev pub extent : Kind → (len : ℕ) → Extent
 extent kind len = record { kind = kind; len = len }
 
--- byte 3 of a channel block: its type, bits 7-5, is 1..6; its error, the low five bits, is 1..9 or 16..31
+-- the type is 1..6, the error is 1..9 or 16..31
 unfoldable pub goodCode : (kind error : ℕ) → Bool
 goodCode kind error = leb 1 kind and leb kind 6 and leb 1 error and (leb error 9 or (leb 16 error and leb error 31))
 
@@ -40,15 +54,15 @@ deviceOf head left = sizedOf Device head left
 unfoldable pub channelOf : (second third left : ℕ) → Found
 channelOf second third left =
     pick (ltb left 3) (refused 24)
-    (pick (eqb (second / 64) 0) (refused 25)
-    (pick (not (goodCode (third / 32) (third % 32))) (refused 25) (Is (extent Channel 3))))
+    (pick (eqb (second / directionPlace) 0) (refused 25)
+    (pick (not (goodCode (third / typePlace) (third % typePlace))) (refused 25) (Is (extent Channel 3))))
 
--- by bits 7-6 of the header: 00 device, 01 module, 10 channel, 11 reserved
+-- by the kind in bits 7-6 of the header
 unfoldable pub foundBy : (head second third left : ℕ) → Found
 foundBy head second third left =
-    pick (eqb (head / 64) 0) (deviceOf head left)
-    (pick (eqb (head / 64) 1) (sizedOf Module head left)
-    (pick (eqb (head / 64) 2) (channelOf second third left) (refused 23)))
+    pick (eqb (head / 64) (kindNumber Device)) (deviceOf head left)
+    (pick (eqb (head / 64) (kindNumber Module)) (sizedOf Module head left)
+    (pick (eqb (head / 64) (kindNumber Channel)) (channelOf second third left) (refused 23)))
 
 -- the block at a place; past the end as where a 0 stands, which is refused
 abbrev pub foundAt : List ℕ → (at : ℕ) → Found

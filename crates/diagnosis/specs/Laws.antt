@@ -1,8 +1,9 @@
--- The customer's second demand for a diagnosis and for each of its blocks, and that reading and the walk agree.
+-- The customer's second demand for a diagnosis and for each of its blocks, that a block's kind is its header's, and that reading and
+-- the walk agree.
 use mathlib.Core.Path.{_≡_, refl, ap, _∙_, subst}
 use mathlib.Core.Bool.{true}
 use mathlib.Core.List.{List, _++_}
-use Prim.Native.Nat.{ℕ, _+_, _-_, _≤_, _<_}
+use Prim.Native.Nat.{ℕ, _+_, _-_, _/_, _≤_, _<_}
 use native.Mathlib.Omega.{arith}
 use native.Mathlib.Nat.{zero-add}
 use lib.ListN.{length, getD, take, drop, length-drop, take-append-drop}
@@ -12,18 +13,20 @@ use Rattle.octets.specs.Bytes.{Bytes}
 use Rattle.octets.specs.Number.{number-bytes}
 use Rattle.octets.specs.Front.{fine}
 use Rattle.octets.specs.Fixed.{fault-fine}
+use Rattle.diagnosis.specs.Block.{kindNumber, foundAt}
 use Rattle.diagnosis.specs.Walk.{position, blockOf, nextOf}
 use Rattle.diagnosis.specs.Reading.{goodStatus1, goodStatus2, goodStatus3, goodMaster, extDiagAgrees, countOf, judge, headerOf, answered, readOf}
 use Rattle.diagnosis.specs.Writing.{diagnosisBytes, verdictBy, verdictOf}
 use Rattle.diagnosis.specs.Contents.{Contents, diagnosis, contentsIn, contentsOf, bytesFor, verdictFor, accepted, Item, itemIn, itemBytes, itemVerdict, blockFor, joined, Writable, Walks}
 use Rattle.diagnosis.specs.Lemmas.Found as kind
-use Rattle.diagnosis.specs.Lemmas.Found.{FindsAt, found-at, Within, within-at}
+use Rattle.diagnosis.specs.Lemmas.Found.{FindsAt, found-at, Within, within-at, kind-of}
 use Rattle.diagnosis.specs.Lemmas.Steps as step-case
 use Rattle.diagnosis.specs.Lemmas.Steps.{Steps, steps, walks, same}
 use Rattle.diagnosis.specs.Lemmas.Judged.{Good, judged}
 use Rattle.diagnosis.specs.Lemmas.Reads.{Reads, read, unread, reads, header-again}
 use Rattle.diagnosis.specs.Lemmas.Written.{carries, stepped, after-blocks}
 use Rattle.diagnosis.specs.Lemmas.Again.{sized-taken, sized-same, channel-taken, channel-same}
+use Rattle.diagnosis.specs.declared.block.Kind.the-variants.{Device, Module}
 use Rattle.diagnosis.specs.declared.block.Extent.{Extent}
 use Rattle.diagnosis.specs.declared.block.Found.the-variants.{Is}
 use Rattle.diagnosis.specs.declared.reading.Header.{Header}
@@ -97,9 +100,9 @@ pub record BlockAgain (s : List ℕ) (at : ℕ) (b : the-block.Block) (p : Posit
 module _ (s : List ℕ) (b : Bytes s) (at : ℕ) where
   by-kind : {e : Extent} → Within (length s - at) (e .len) → FindsAt s at (Is e) → BlockAgain s at (blockOf s at e) (position (at + e .len))
   by-kind w (kind.device z g) =
-      record { taken = sized-taken s at _ w; same = sized-same s at _ w 0 (omega arith); onward = omega arith; inside = omega arith }
+      record { taken = sized-taken s at _ w; same = sized-same s at _ w Device (omega arith); onward = omega arith; inside = omega arith }
   by-kind w (kind.modules z g) =
-      record { taken = sized-taken s at _ w; same = sized-same s at _ w 64 (omega arith); onward = omega arith; inside = omega arith }
+      record { taken = sized-taken s at _ w; same = sized-same s at _ w Module (omega arith); onward = omega arith; inside = omega arith }
   by-kind w (kind.channel z g) =
       record { taken = channel-taken s b at g; same = channel-same s b at g z; onward = omega arith; inside = omega (arith, g .whole) }
 
@@ -118,6 +121,10 @@ module _ (s : List ℕ) (b : Bytes s) (at : ℕ) where
   pub block-writes-back : {c : the-block.Block} {p : Position} → nextOf s at ≡ step.Block c p → BlockAgain s at c p
   unfolding AgainAt
   block-writes-back e = subst AgainAt e (by-step (steps s at))
+
+-- A block is found as the kind that its header has.
+pub kind-in-header : (s : List ℕ) (at : ℕ) {e : Extent} → foundAt s at ≡ Is e → getD s at 0 / 64 ≡ kindNumber (e .kind)
+kind-in-header s at p = kind-of (found-at s at p)
 
 -- ---- reading and the walk
 

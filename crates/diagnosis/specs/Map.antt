@@ -27,3 +27,8 @@ setOf map = countFrom (reports map) 0 (8 * length map)
 
 abbrev pub lowestOf : (map : List ℕ) → Lowest
 lowestOf map = lowestFrom (reports map) 0 (8 * length map)
+
+-- its number; 65535 where none reports, which no module has: the longest map has the modules 0 to 495
+abbrev pub lowestNumber : Lowest → ℕ
+lowestNumber (Module k) = k
+lowestNumber Nothing = 65535

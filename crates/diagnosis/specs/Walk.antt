@@ -5,7 +5,7 @@ use lib.ListN.{length, getD, take, drop}
 use lib.Dec.{eqb, ltb}
 use Rattle.octets.specs.Choice.{pick}
 use Rattle.diagnosis.specs.Map.{setOf, lowestOf}
-use Rattle.diagnosis.specs.Block.{refusal, foundAt}
+use Rattle.diagnosis.specs.Block.{directionPlace, typePlace, refusal, foundAt}
 use Rattle.diagnosis.specs.declared.block.Kind as the-kind
 use Rattle.diagnosis.specs.declared.block.Kind.the-variants as kind
 use Rattle.diagnosis.specs.declared.block.Extent.{Extent}
@@ -24,7 +24,13 @@ position at = record { at = at }
 -- the fields of a channel block's three bytes
 abbrev pub fieldsOf : (head second third : ℕ) → the-channel.Channel
 fieldsOf head second third =
-    record { «module» = head % 64; direction = second / 64; channel = second % 64; kind = third / 32; error = third % 32 }
+    record {
+      «module» = head % 64;
+      direction = second / directionPlace;
+      channel = second % directionPlace;
+      kind = third / typePlace;
+      error = third % typePlace;
+    }
 
 -- the bytes of s after a block's header at a place, of a block of so many bytes
 abbrev pub behind : List ℕ → (at len : ℕ) → List ℕ

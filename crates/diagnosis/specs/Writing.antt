@@ -7,9 +7,11 @@ use lib.Dec.{eqb, ltb, leb}
 use Rattle.octets.specs.Choice.{pick, _and_}
 use Rattle.octets.specs.Number.{bytesOf}
 use Rattle.octets.specs.Front.{Verdict, fine, fault}
-use Rattle.diagnosis.specs.Block.{goodCode}
+use Rattle.diagnosis.specs.Block.{kindNumber, directionPlace, typePlace, goodCode}
 use Rattle.diagnosis.specs.Reading.{judge}
-use Rattle.diagnosis.specs.declared.walk.Channel.{Channel}
+use Rattle.diagnosis.specs.declared.block.Kind.{Kind}
+use Rattle.diagnosis.specs.declared.block.Kind.the-variants.{Device, Module, Channel}
+use Rattle.diagnosis.specs.declared.walk.Channel as the-channel
 use Rattle.diagnosis.specs.declared.reading.Header.{Header}
 use Rattle.diagnosis.specs.declared.reading.Count.{Count}
 use Rattle.diagnosis.specs.declared.reading.Count.the-variants.{Blocks, Refused}
@@ -32,9 +34,13 @@ verdictOf h blocks = verdictBy (judge h blocks)
 
 -- ---- one block
 
--- a header with the length and the bits 7-6 that kind has, and then the bytes
-abbrev pub sizedBytes : (kind : ℕ) → List ℕ → List ℕ
-sizedBytes kind s = (kind + (length s + 1)) ∷ s
+-- a block's header: the kind in bits 7-6, and below them a length or a module's number
+abbrev pub headOf : Kind → (low : ℕ) → ℕ
+headOf kind low = 64 * kindNumber kind + low
+
+-- a header with the length, and then the bytes
+abbrev pub sizedBytes : Kind → List ℕ → List ℕ
+sizedBytes kind s = headOf kind (length s + 1) ∷ s
 
 -- the length is not below 2, and fits its six bits
 unfoldable pub sizedVerdict : List ℕ → Verdict
@@ -42,28 +48,28 @@ sizedVerdict s = pick (ltb (length s + 1) 2) (fault 23) (pick (ltb 63 (length s 
 
 -- a device block
 abbrev pub deviceBytes : List ℕ → List ℕ
-deviceBytes s = sizedBytes 0 s
+deviceBytes s = sizedBytes Device s
 
 abbrev pub deviceVerdict : List ℕ → Verdict
 deviceVerdict s = sizedVerdict s
 
 -- a module block
 abbrev pub moduleBytes : (map : List ℕ) → List ℕ
-moduleBytes map = sizedBytes 64 map
+moduleBytes map = sizedBytes Module map
 
 abbrev pub moduleVerdict : (map : List ℕ) → Verdict
 moduleVerdict map = sizedVerdict map
 
 -- a channel block
-abbrev pub channelBytes : Channel → List ℕ
-channelBytes c = (128 + c .«module») ∷ (c .direction * 64 + c .channel) ∷ (c .kind * 32 + c .error) ∷ []
+abbrev pub channelBytes : the-channel.Channel → List ℕ
+channelBytes c = headOf Channel (c .«module») ∷ (c .direction * directionPlace + c .channel) ∷ (c .kind * typePlace + c .error) ∷ []
 
 -- two fields fit one byte: the high one goes up to top, the low one to bottom
 abbrev pub fits : (high top low bottom : ℕ) → Bool
 fits high top low bottom = leb high top and leb low bottom
 
 -- of each byte in turn: its fields fit, else 21; its codes are not reserved, else 25
-unfoldable pub channelVerdict : Channel → Verdict
+unfoldable pub channelVerdict : the-channel.Channel → Verdict
 channelVerdict c =
     pick (ltb 63 (c .«module»)) (fault 21)
     (pick (not (fits (c .direction) 3 (c .channel) 63)) (fault 21)

@@ -3,7 +3,14 @@ ghost use mathlib.Core.Path.{_≡_};
 ghost use Rattle.diagnosis.specs.Block.{goodCode};
 use octets::Refusal;
 
-// Bits 7-6 of a block's header.
+// Bits 7-6 of a block's header, by its kind.
+pub const DEVICE_BLOCK: u8 = 0;
+
+pub const MODULE_BLOCK: u8 = 1;
+
+pub const CHANNEL_BLOCK: u8 = 2;
+
+// The kinds of block.
 pub enum Kind {
     Device,
     Module,

@@ -5,9 +5,12 @@ mod map;
 mod reading;
 mod walk;
 
+pub use block::CHANNEL_BLOCK;
+pub use block::DEVICE_BLOCK;
 pub use block::Extent;
 pub use block::Found;
 pub use block::Kind;
+pub use block::MODULE_BLOCK;
 pub use block::good_code;
 pub use map::Lowest;
 pub use reading::Count;

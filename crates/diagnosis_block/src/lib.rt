@@ -4,9 +4,12 @@ ghost use mathlib.Core.Path.{_≡_};
 ghost use Prim.Native.Nat.{_+_, _-_, _<_};
 ghost use lib.ListN.{length, getD};
 ghost use Rattle.diagnosis.specs.Block.{sizedOf, deviceOf, channelOf, foundAt};
+use diagnosis::CHANNEL_BLOCK;
+use diagnosis::DEVICE_BLOCK;
 use diagnosis::Extent;
 use diagnosis::Found;
 use diagnosis::Kind;
+use diagnosis::MODULE_BLOCK;
 use diagnosis::good_code;
 use octets::Refusal;
 
@@ -65,9 +68,9 @@ pub fn found_at(s: &[u8], at: usize) -> Found
     }
     let bits = s[at] / 64;
     match bits {
-        0 => device_at(s, at),
-        1 => sized_at(Kind::Module, s, at),
-        2 => channel_at(s, at),
+        DEVICE_BLOCK => device_at(s, at),
+        MODULE_BLOCK => sized_at(Kind::Module, s, at),
+        CHANNEL_BLOCK => channel_at(s, at),
         _ => Found::Refused(Refusal { number: 23 }),
     }
 }

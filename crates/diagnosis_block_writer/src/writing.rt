@@ -1,13 +1,19 @@
 // Writing one block at the front of a lent slice.
 ghost use mathlib.Core.Path.{_≡_};
 ghost use mathlib.Core.List.{_∷_};
-ghost use Prim.Native.Nat.{_≤_};
+ghost use Prim.Native.Nat.{_+_, _≤_};
 ghost use lib.ListN.{length};
 ghost use Rattle.octets.specs.Front.{AtFront, answerBy, heldBy};
-ghost use Rattle.diagnosis.specs.Writing.{sizedBytes, sizedVerdict, deviceBytes, deviceVerdict, moduleBytes, moduleVerdict, fits, channelBytes, channelVerdict};
-use diagnosis::Channel;
+ghost use Rattle.diagnosis.specs.Writing.{sizedVerdict, deviceBytes, deviceVerdict, moduleBytes, moduleVerdict, fits, channelBytes, channelVerdict};
 use diagnosis::good_code;
 use octets::Written;
+
+// The headers of the three kinds, without what stands below bits 7-6.
+const DEVICE: u8 = 64 * diagnosis::DEVICE_BLOCK;
+
+const MODULE: u8 = 64 * diagnosis::MODULE_BLOCK;
+
+const CHANNEL: u8 = 64 * diagnosis::CHANNEL_BLOCK;
 
 fn put_block(head: u8, bytes: &[u8], out: &mut [u8]) -> usize
     requires { ⌜ length (head ∷ now bytes) ≤ length (now out) ⌝ }
@@ -20,8 +26,8 @@ fn put_block(head: u8, bytes: &[u8], out: &mut [u8]) -> usize
 // Writes a block whose header has its length, with the bits 7-6 that kind has.
 fn write_sized(kind: u8, bytes: &[u8], out: &mut [u8]) -> Written
     requires { ⌜ kind ≤ 64 ⌝ }
-    ensures answer { λ r. ⌜ r ≡ answerBy (sizedVerdict (now (bytes .entry))) (sizedBytes kind (now (bytes .entry))) (length (now (out .entry))) ⌝ }
-    ensures bytes { λ _. ⌜ now (out .exit) ≡ heldBy (sizedVerdict (now (bytes .entry))) (sizedBytes kind (now (bytes .entry))) (now (out .entry)) ⌝ }
+    ensures answer { λ r. ⌜ r ≡ answerBy (sizedVerdict (now (bytes .entry))) ((kind + (length (now (bytes .entry)) + 1)) ∷ now (bytes .entry)) (length (now (out .entry))) ⌝ }
+    ensures bytes { λ _. ⌜ now (out .exit) ≡ heldBy (sizedVerdict (now (bytes .entry))) ((kind + (length (now (bytes .entry)) + 1)) ∷ now (bytes .entry)) (now (out .entry)) ⌝ }
 {
     let len = bytes.len() + 1;
     if len < 2 {
@@ -41,7 +47,7 @@ pub fn write_device(bytes: &[u8], out: &mut [u8]) -> Written
     ensures answer { λ r. ⌜ r ≡ answerBy (deviceVerdict (now (bytes .entry))) (deviceBytes (now (bytes .entry))) (length (now (out .entry))) ⌝ }
     ensures bytes { λ _. ⌜ now (out .exit) ≡ heldBy (deviceVerdict (now (bytes .entry))) (deviceBytes (now (bytes .entry))) (now (out .entry)) ⌝ }
 {
-    write_sized(0, bytes, out)
+    write_sized(DEVICE, bytes, out)
 }
 
 // Writes a module block from its map.
@@ -49,7 +55,7 @@ pub fn write_module(map: &[u8], out: &mut [u8]) -> Written
     ensures answer { λ r. ⌜ r ≡ answerBy (moduleVerdict (now (map .entry))) (moduleBytes (now (map .entry))) (length (now (out .entry))) ⌝ }
     ensures bytes { λ _. ⌜ now (out .exit) ≡ heldBy (moduleVerdict (now (map .entry))) (moduleBytes (now (map .entry))) (now (out .entry)) ⌝ }
 {
-    write_sized(64, map, out)
+    write_sized(MODULE, map, out)
 }
 
 // Whether two fields fit one byte: the high one goes up to top, the low one to bottom.
@@ -63,7 +69,7 @@ fn fits_byte(high: u8, top: u8, low: u8, bottom: u8) -> bool
 }
 
 // Writes a channel block: of each byte the fields must fit, and then its codes be in use.
-pub fn write_channel(channel: Channel, out: &mut [u8]) -> Written
+pub fn write_channel(channel: diagnosis::Channel, out: &mut [u8]) -> Written
     ensures answer { λ r. ⌜ r ≡ answerBy (channelVerdict channel) (channelBytes channel) (length (now (out .entry))) ⌝ }
     ensures bytes { λ _. ⌜ now (out .exit) ≡ heldBy (channelVerdict channel) (channelBytes channel) (now (out .entry)) ⌝ }
 {
@@ -85,7 +91,7 @@ pub fn write_channel(channel: Channel, out: &mut [u8]) -> Written
     if out.len() < 3 {
         return Written::Refused(11);
     }
-    out[0] = 128 + channel.module;
+    out[0] = CHANNEL + channel.module;
     out[1] = channel.direction * 64 + channel.channel;
     out[2] = channel.kind * 32 + channel.error;
     Written::Stored(3)

@@ -12,9 +12,12 @@ use Rattle.octets.specs.Bytes.{Bytes}
 use Rattle.octets.specs.Elements.{part-elements}
 use Rattle.octets.specs.Front.{fine}
 use Rattle.octets.specs.Part.{partOf}
+use Rattle.diagnosis.specs.Block.{kindNumber}
 use Rattle.diagnosis.specs.Walk.{fieldsOf, behind}
-use Rattle.diagnosis.specs.Writing.{sizedBytes, sizedVerdict, channelBytes, channelVerdict}
+use Rattle.diagnosis.specs.Writing.{headOf, sizedBytes, sizedVerdict, channelBytes, channelVerdict}
 use Rattle.diagnosis.specs.Lemmas.Found.{Within, Coded}
+use Rattle.diagnosis.specs.declared.block.Kind.{Kind}
+use Rattle.diagnosis.specs.declared.block.Kind.the-variants as kind
 use Rattle.diagnosis.specs.declared.walk.Channel.{Channel}
 
 -- a block's bytes reach to the next position
@@ -44,9 +47,9 @@ module _ (s : List ℕ) (at len : ℕ) (w : Within (length s - at) len) where
       let high : len - 1 + 1 ≤ 63 = omega arith in
       rw part-length (simp (le-ltb _ _ low, le-ltb _ _ high))
 
-  pub sized-same : (top : ℕ) → top + len ≡ getD s at 0 → sizedBytes top (partOf s (at + 1) (len - 1)) ≡ take (at + len - at) (drop at s)
-  sized-same top e =
-      let head : top + (length (partOf s (at + 1) (len - 1)) + 1) ≡ getD s at 0 = omega (arith, part-length) in
+  pub sized-same : (k : Kind) → headOf k len ≡ getD s at 0 → sizedBytes k (partOf s (at + 1) (len - 1)) ≡ take (at + len - at) (drop at s)
+  sized-same k e =
+      let head : headOf k (length (partOf s (at + 1) (len - 1)) + 1) ≡ getD s at 0 = omega (arith, part-length) in
       let here : at < length s = omega arith in
       let one : len ≡ suc (len - 1) = omega arith in
       let next : at + 1 ≡ suc at = add-one at in
@@ -72,9 +75,9 @@ module _ (s : List ℕ) (b : Bytes s) (at : ℕ) (k : Coded (getD s (at + 1) 0) 
       simp
       (le-ltb _ _ first, le-leb _ _ direction, le-leb _ _ number, ne-eqb _ _ (k .direction), le-leb _ _ type, le-leb _ _ error, k .codes)
 
-  pub channel-same : getD s at 0 / 64 ≡ 2 → channelBytes fieldsAt ≡ take (at + 3 - at) (drop at s)
+  pub channel-same : getD s at 0 / 64 ≡ kindNumber kind.Channel → channelBytes fieldsAt ≡ take (at + 3 - at) (drop at s)
   channel-same e =
-      let first : 128 + getD s at 0 % 64 ≡ getD s at 0 = omega arith in
+      let first : headOf kind.Channel (getD s at 0 % 64) ≡ getD s at 0 = omega arith in
       let second : getD s (at + 1) 0 / 64 * 64 + getD s (at + 1) 0 % 64 ≡ getD s (suc at) 0 =
       div-add-mod' (getD s (at + 1) 0) 64 ∙ ap (λ (i : ℕ). getD s i 0) (add-one at) in
       let third : getD s (at + 2) 0 / 32 * 32 + getD s (at + 2) 0 % 32 ≡ getD s (suc (suc at)) 0 =

@@ -11,9 +11,9 @@ use borrow.Author.Tests.{le-ltb, ltb-false, ne-eqb, eqb-false, leb-true, not-fal
 use Rattle.octets.specs.Choice.{by-pick, and-left, and-right}
 use Rattle.octets.specs.Front.{Verdict, fine}
 use Rattle.octets.specs.Fixed.{fault-fine}
-use Rattle.diagnosis.specs.Block.{extent, goodCode, sizedOf, channelOf, foundBy, foundAt}
+use Rattle.diagnosis.specs.Block.{kindNumber, extent, goodCode, sizedOf, channelOf, foundBy, foundAt}
 use Rattle.diagnosis.specs.Walk.{fieldsOf}
-use Rattle.diagnosis.specs.Writing.{sizedBytes, sizedVerdict, deviceBytes, moduleBytes, fits, channelBytes, channelVerdict}
+use Rattle.diagnosis.specs.Writing.{headOf, sizedBytes, sizedVerdict, deviceBytes, moduleBytes, fits, channelBytes, channelVerdict}
 use Rattle.diagnosis.specs.Lemmas.Found.{found-shift}
 use Rattle.diagnosis.specs.declared.block.Kind.{Kind}
 use Rattle.diagnosis.specs.declared.block.Kind.the-variants.{Device, Module}
@@ -75,26 +75,26 @@ found-behind a s =
     ap (foundAt (a ++ s)) (sym z) ∙ sym (found-shift (length a) 0 (a ++ s)) ∙ ap (λ (l : List ℕ). foundAt l 0) (drop-append-seam a s)
 
 module _ (s rest : List ℕ) (g : Sizes s) where
-  -- a block with its length in its header, behind the bits 7-6 that `top` has
-  sized : (k : Kind) (top : ℕ) → top % 64 ≡ 0 → sizedOf k (top + (length s + 1)) (length (sizedBytes top s ++ rest) - 0) ≡ Is (extent k (length s + 1))
+  -- a block with its length in its header
+  sized : (k : Kind) → sizedOf k (headOf k (length s + 1)) (length (sizedBytes k s ++ rest) - 0) ≡ Is (extent k (length s + 1))
   unfolding sizedOf
-  sized k top z =
-      let n : (top + (length s + 1)) % 64 ≡ length s + 1 = omega arith in
+  sized k =
+      let n : headOf k (length s + 1) % 64 ≡ length s + 1 = omega arith in
       let low : 2 ≤ length s + 1 = omega arith in
-      let whole : length s + 1 ≤ length (sizedBytes top s ++ rest) - 0 = omega (arith, length-append s rest) in
+      let whole : length s + 1 ≤ length (sizedBytes k s ++ rest) - 0 = omega (arith, length-append s rest) in
       simp (n, le-ltb _ _ low, le-ltb _ _ whole)
 
   pub found-device : foundAt (deviceBytes s ++ rest) 0 ≡ Is (extent Device (length s + 1))
   unfolding foundBy
   found-device =
-      let head : (0 + (length s + 1)) / 64 ≡ 0 = omega arith in
-      simp head (sized Device 0 refl)
+      let head : headOf Device (length s + 1) / 64 ≡ kindNumber Device = omega arith in
+      simp head (sized Device)
 
   pub found-module : foundAt (moduleBytes s ++ rest) 0 ≡ Is (extent Module (length s + 1))
   unfolding foundBy
   found-module =
-      let head : (64 + (length s + 1)) / 64 ≡ 1 = omega arith in
-      simp head (sized Module 64 refl)
+      let head : headOf Module (length s + 1) / 64 ≡ kindNumber Module = omega arith in
+      simp head (sized Module)
 
 module _ (c : Channel) (f : Fields c) where
   -- a channel block's bytes have its fields
@@ -107,15 +107,15 @@ module _ (c : Channel) (f : Fields c) where
   error-back : (c .kind * 32 + c .error) % 32 ≡ c .error
   error-back = omega arith
 
-  pub fields-back : fieldsOf (128 + c .«module») (c .direction * 64 + c .channel) (c .kind * 32 + c .error) ≡ c
+  pub fields-back : fieldsOf (headOf kind.Channel (c .«module»)) (c .direction * 64 + c .channel) (c .kind * 32 + c .error) ≡ c
   fields-back =
-      let m : (128 + c .«module») % 64 ≡ c .«module» = omega arith in
+      let m : headOf kind.Channel (c .«module») % 64 ≡ c .«module» = omega arith in
       let n : (c .direction * 64 + c .channel) % 64 ≡ c .channel = omega arith in
       rw (m, direction-back, n, kind-back, error-back)
 
   pub found-channel : (rest : List ℕ) → foundAt (channelBytes c ++ rest) 0 ≡ Is (extent kind.Channel 3)
   unfolding foundBy channelOf
   found-channel rest =
-      let head : (128 + c .«module») / 64 ≡ 2 = omega arith in
+      let head : headOf kind.Channel (c .«module») / 64 ≡ kindNumber kind.Channel = omega arith in
       let whole : 3 ≤ length (channelBytes c ++ rest) - 0 = omega arith in
       simp (head, le-ltb _ _ whole, direction-back, ne-eqb _ _ (f .some), kind-back, error-back, f .codes)

@@ -10,7 +10,7 @@ use lib.Dec.{eqb, ltb}
 use borrow.Author.Tests.{ltb-false, eqb-true, eqb-false, not-false}
 use Rattle.octets.specs.Choice.{by-pick}
 use Rattle.octets.specs.declared.Refusal.{Refusal}
-use Rattle.diagnosis.specs.Block.{extent, goodCode, sizedOf, channelOf, foundBy, foundAt}
+use Rattle.diagnosis.specs.Block.{kindNumber, extent, goodCode, sizedOf, channelOf, foundBy, foundAt}
 use Rattle.diagnosis.specs.declared.block.Kind.{Kind}
 use Rattle.diagnosis.specs.declared.block.Kind.the-variants.{Device, Module, Channel}
 use Rattle.diagnosis.specs.declared.block.Extent.{Extent}
@@ -29,9 +29,9 @@ pub record Coded (second third left : ℕ) : Type 0 where
   pub codes : goodCode (third / 32) (third % 32) ≡ true
 
 pub data Finds (head second third left : ℕ) : Found → Type 0 where
-  device : head / 64 ≡ 0 → Sized head left → Finds head second third left (Is (extent Device (head % 64)))
-  modules : head / 64 ≡ 1 → Sized head left → Finds head second third left (Is (extent Module (head % 64)))
-  channel : head / 64 ≡ 2 → Coded second third left → Finds head second third left (Is (extent Channel 3))
+  device : head / 64 ≡ kindNumber Device → Sized head left → Finds head second third left (Is (extent Device (head % 64)))
+  modules : head / 64 ≡ kindNumber Module → Sized head left → Finds head second third left (Is (extent Module (head % 64)))
+  channel : head / 64 ≡ kindNumber Channel → Coded second third left → Finds head second third left (Is (extent Channel 3))
   refusal : {r : Refusal} → Finds head second third left (Refused r)
 
 module _ (head second third left : ℕ) where
@@ -45,7 +45,7 @@ module _ (head second third left : ℕ) where
       (λ a. by-pick F (ltb left (head % 64)) (λ _. refusal)
       (λ b. f (record { low = ltb-false (head % 64) 2 a; whole = ltb-false left (head % 64) b })))
 
-  by-codes : head / 64 ≡ 2 → F (channelOf second third left)
+  by-codes : head / 64 ≡ kindNumber Channel → F (channelOf second third left)
   unfolding F channelOf
   by-codes e =
       by-pick F (ltb left 3) (λ _. refusal)
@@ -56,9 +56,9 @@ module _ (head second third left : ℕ) where
   pub finds : Finds head second third left (foundBy head second third left)
   unfolding F foundBy
   finds =
-      by-pick F (eqb (head / 64) 0) (λ e. by-size Device (device (eqb-true (head / 64) 0 e)))
-      (λ _. by-pick F (eqb (head / 64) 1) (λ e. by-size Module (modules (eqb-true (head / 64) 1 e)))
-      (λ _. by-pick F (eqb (head / 64) 2) (λ e. by-codes (eqb-true (head / 64) 2 e)) (λ _. refusal)))
+      by-pick F (eqb (head / 64) (kindNumber Device)) (λ e. by-size Device (device (eqb-true _ _ e)))
+      (λ _. by-pick F (eqb (head / 64) (kindNumber Module)) (λ e. by-size Module (modules (eqb-true _ _ e)))
+      (λ _. by-pick F (eqb (head / 64) (kindNumber Channel)) (λ e. by-codes (eqb-true _ _ e)) (λ _. refusal)))
 
 -- a block has 2 to 63 bytes, and all of them are there
 pub record Within (left len : ℕ) : Type 0 where
@@ -76,6 +76,12 @@ three : {head second third left : ℕ} {e : Extent} → Finds head second third 
 three (device _ s) k = cc
 three (modules _ s) k = cc
 three (channel _ _) k = refl
+
+-- its kind is its header's
+pub kind-of : {head second third left : ℕ} {e : Extent} → Finds head second third left (Is e) → head / 64 ≡ kindNumber (e .kind)
+kind-of (device z _) = z
+kind-of (modules z _) = z
+kind-of (channel z _) = z
 
 -- of the block at a place
 abbrev pub FindsAt : List ℕ → (at : ℕ) → Found → Type 0

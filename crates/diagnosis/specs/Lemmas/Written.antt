@@ -14,6 +14,7 @@ use Rattle.diagnosis.specs.Block.{extent, foundAt}
 use Rattle.diagnosis.specs.Map.{setOf, lowestOf}
 use Rattle.diagnosis.specs.Walk.{position, fieldsOf, behind, blockOf, nextOf}
 use Rattle.diagnosis.specs.Reading.{blocksIn, counted}
+use Rattle.diagnosis.specs.Writing.{headOf}
 use Rattle.diagnosis.specs.Contents.{Item, device, modules, channel, itemIn, itemBytes, itemVerdict, blockFor, joined, Writable, none, one-more}
 use Rattle.diagnosis.specs.Lemmas.Blocks.{blocks-more}
 use Rattle.diagnosis.specs.Lemmas.Steps.{inner-step}
@@ -71,9 +72,9 @@ module _ (before after : List ℕ) where
       let at : (i : ℕ) → getD (whole (channel c)) (length before + i) 0 ≡ getD (itemBytes (channel c) ++ after) i 0 =
       λ i. getD-append-add before (itemBytes (channel c) ++ after) i 0 in
       let z : length before + 0 ≡ length before = omega arith in
-      let head : getD (whole (channel c)) (length before) 0 ≡ 128 + c .«module» = ap (λ (i : ℕ). getD (whole (channel c)) i 0) (sym z) ∙ at 0 in
+      let head : getD (whole (channel c)) (length before) 0 ≡ headOf Channel (c .«module») = ap (λ (i : ℕ). getD (whole (channel c)) i 0) (sym z) ∙ at 0 in
       ap₂ (λ (x y : ℕ). block.Channel (fieldsOf x y (getD (whole (channel c)) (length before + 2) 0))) head (at 1)
-      ∙ ap (λ (x : ℕ). block.Channel (fieldsOf (128 + c .«module») (c .direction * 64 + c .channel) x)) (at 2)
+      ∙ ap (λ (x : ℕ). block.Channel (fieldsOf (headOf Channel (c .«module»)) (c .direction * 64 + c .channel) x)) (at 2)
       ∙ ap block.Channel (fields-back c (fields c v))
 
   pub carries : (x : Item) → itemIn (before ++ (itemBytes x ++ after)) (blockFor (length before) x) ≡ x

@@ -1,19 +1,20 @@
 -- `diagnosis_block_writer::writing::write_sized` meets its contract. The tests are the verdict, and then the block fits.
 use mathlib.Core.Path.{_≡_}
-use mathlib.Core.List.{List}
-use Prim.Native.Nat.{ℕ}
+use mathlib.Core.List.{List, _∷_}
+use Prim.Native.Nat.{ℕ, _+_}
 use native.Mathlib.Omega.{arith}
+use lib.ListN.{length}
 use denote.Ref.{now}
 use borrow.Author.Needs.{needs}
 use borrow.Author.Tests.{lt-ltb, le-ltb}
 use Rattle.octets.specs.Front.{fine, refused, too-small, stored}
-use Rattle.diagnosis.specs.Writing.{sizedBytes, sizedVerdict}
+use Rattle.diagnosis.specs.Writing.{sizedVerdict}
 use Rattle.diagnosis_block_writer.proofs.writing.write_sized.Statement.{statement}
 use Rattle.diagnosis_block_writer.proofs.writing.write_sized.Tie as tie
 
 -- what is to be written
 abbrev bytesAt : tie.Start → List ℕ
-bytesAt b = sizedBytes (b .args .kind) (now (b .args .bytes))
+bytesAt b = (b .args .kind + (length (now (b .args .bytes)) + 1)) ∷ now (b .args .bytes)
 
 good : (c : tie.Else2) → sizedVerdict (now (c .before .before .before .before .args .bytes)) ≡ fine
 unfolding sizedVerdict
