@@ -5,30 +5,72 @@ use lib.Dec.{eqb}
 use Rattle.octets.specs.Choice.{pick}
 use Rattle.configuration.specs.declared.fields.Side.{Side}
 use Rattle.configuration.specs.declared.fields.Side.the-variants.{Absent, Present}
+use Rattle.configuration.specs.declared.fields.Identifier.{Identifier}
 use Rattle.configuration.specs.declared.fields.Identifier.the-variants.{General, Special}
 use Rattle.configuration.specs.declared.fields.Module.{Module}
 
--- so many units of byte x: bit 6 makes words of two bytes of them, bit 7 asks for consistency
+-- ---- the two formats of the identifier
+
+-- bits 5-4 are zero in the special format alone
+abbrev pub identifierOf : (x : ℕ) → Identifier
+identifierOf x = pick (eqb (x / 16 % 4) 0) Special General
+
+-- the value of the bit by which it says that the module has input
+abbrev pub inputBit : Identifier → ℕ
+inputBit General = 16
+inputBit Special = 64
+
+-- the value of the bit by which it says that the module has output
+abbrev pub outputBit : Identifier → ℕ
+outputBit General = 32
+outputBit Special = 128
+
+-- how many units a side has at most; its byte has one less in its low bits
+abbrev pub mostUnits : Identifier → ℕ
+mostUnits General = 16
+mostUnits Special = 64
+
+-- ---- one side
+
+-- the value of the bit of its byte that makes words of two bytes of the units
+abbrev pub wordsBit : ℕ
+wordsBit = 64
+
+-- and of the bit that asks for consistency
+abbrev pub consistencyBit : ℕ
+consistencyBit = 128
+
+-- so many units of byte x
 abbrev pub sideOf : (units x : ℕ) → Side
-sideOf n x = Present n (eqb (x / 64 % 2) 1) (eqb (x / 128 % 2) 1)
+sideOf n x = Present n (eqb (x / wordsBit % 2) 1) (eqb (x / consistencyBit % 2) 1)
 
 -- where a bit says that the module has that side
 abbrev pub sideIf : (bit units x : ℕ) → Side
 sideIf b n x = pick (eqb b 1) (sideOf n x) Absent
 
--- Bits 5-4 are not zero: 01 input, 10 output, 11 both, of low nibble plus 1 units.
+-- ---- a module
+
+-- The general format: input, output or both, of low nibble plus 1 units.
 unfoldable pub generalOf : (x : ℕ) → Module
 generalOf x =
-    record { identifier = General; input = sideIf (x / 16 % 2) (x % 16 + 1) x; output = sideIf (x / 32 % 2) (x % 16 + 1) x }
+    record {
+      identifier = General;
+      input = sideIf (x / inputBit General % 2) (x % mostUnits General + 1) x;
+      output = sideIf (x / outputBit General % 2) (x % mostUnits General + 1) x;
+    }
 
 -- a length byte, where a bit says that it follows: bits 0..5 plus 1 units
 abbrev pub lengthByte : (bit y : ℕ) → Side
-lengthByte b y = sideIf b (y % 64 + 1) y
+lengthByte b y = sideIf b (y % mostUnits Special + 1) y
 
--- Bits 5-4 are zero: bit 7 says that output's length byte y follows, bit 6 that input's z does.
+-- The special format: one bit says that output's length byte y follows, one that input's z does.
 unfoldable pub specialOf : (x y z : ℕ) → Module
 specialOf x y z =
-    record { identifier = Special; input = lengthByte (x / 64 % 2) z; output = lengthByte (x / 128 % 2) y }
+    record {
+      identifier = Special;
+      input = lengthByte (x / inputBit Special % 2) z;
+      output = lengthByte (x / outputBit Special % 2) y;
+    }
 
 -- how many bytes a side has
 abbrev pub lengthOf : Side → ℕ

@@ -3,12 +3,16 @@ use Prim.Native.Nat.{ℕ, zero, suc}
 use mathlib.Core.Path.{_≡_, refl}
 use mathlib.Core.Bool.{true}
 use mathlib.Core.List.{List, [], _∷_}
+use lib.ListN.{getD}
 use Rattle.octets.specs.Choice.{through, alike}
 use Rattle.octets.specs.Front.{Verdict, fine, fault}
 use Rattle.octets.specs.Refusals.{listed, numbered}
-use Rattle.configuration.specs.Walk.{Found, one, unfit, specialIn, moduleIn, Walk, end, bad, more, after, walkOf}
+use Rattle.configuration.specs.Fields.{identifierOf}
+use Rattle.configuration.specs.Walk.{Found, one, unfit, specialIn, moduleBy, moduleIn, Walk, end, bad, more, after, walkOf}
 use Rattle.configuration.specs.Reading.{totalsOf, withinLimit, readOf, withRoom, offsetsOf}
 use Rattle.configuration.specs.Writing.{verdictIn}
+use Rattle.configuration.specs.declared.fields.Identifier.{Identifier}
+use Rattle.configuration.specs.declared.fields.Identifier.the-variants.{General, Special}
 use Rattle.configuration.specs.declared.reading.Reading.{Reading}
 use Rattle.configuration.specs.declared.reading.Reading.the-variants.{Configuration, Refused}
 
@@ -22,9 +26,14 @@ walkVerdict end = fine
 walkVerdict (bad r) = fault (r .number)
 walkVerdict (more m vendor w) = walkVerdict w
 
+by-format : (k : Identifier) (r : List ℕ) → numbered (foundVerdict (moduleBy k r)) ≡ true
+unfolding specialIn listed
+by-format General r = refl
+by-format Special r = simp (through foundVerdict, through numbered, alike)
+
 module-numbered : (r : List ℕ) → numbered (foundVerdict (moduleIn r)) ≡ true
-unfolding moduleIn specialIn listed
-module-numbered r = simp (through foundVerdict, through numbered, alike)
+unfolding moduleIn
+module-numbered r = by-format (identifierOf (getD r 0 0)) r
 
 after-numbered : (f : Found) (r : List ℕ) (rest : ℕ → Walk) → numbered (foundVerdict f) ≡ true
     → ((k : ℕ) → numbered (walkVerdict (rest k)) ≡ true) → numbered (walkVerdict (after f r rest)) ≡ true

@@ -7,7 +7,9 @@ use lib.Dec.{eqb, ltb}
 use Rattle.octets.specs.Choice.{pick}
 use Rattle.octets.specs.Part.{partOf}
 use Rattle.octets.specs.declared.Refusal.{Refusal}
-use Rattle.configuration.specs.Fields.{generalOf, specialOf}
+use Rattle.configuration.specs.Fields.{identifierOf, inputBit, outputBit, generalOf, specialOf}
+use Rattle.configuration.specs.declared.fields.Identifier.{Identifier}
+use Rattle.configuration.specs.declared.fields.Identifier.the-variants.{General, Special}
 use Rattle.configuration.specs.declared.fields.Module.{Module}
 use Rattle.configuration.specs.declared.walk.Position.{Position}
 use Rattle.configuration.specs.declared.walk.Step.{Step}
@@ -25,7 +27,7 @@ faulty k = unfit (record { number = k })
 
 -- how many bytes stand before the vendor bytes: the identifier x and its length bytes
 abbrev pub frontOf : (x : ℕ) → ℕ
-frontOf x = 1 + x / 128 % 2 + x / 64 % 2
+frontOf x = 1 + x / outputBit Special % 2 + x / inputBit Special % 2
 
 -- the vendor count that is refused
 abbrev pub barred : ℕ
@@ -39,11 +41,15 @@ specialBy x left y z =
     (pick (ltb left (frontOf x + x % 16)) (faulty 24) (one (specialOf x y z) (frontOf x) (x % 16)))
 
 unfoldable pub specialIn : List ℕ → Found
-specialIn r = specialBy (getD r 0 0) (length r) (getD r 1 0) (getD r (1 + getD r 0 0 / 128 % 2) 0)
+specialIn r = specialBy (getD r 0 0) (length r) (getD r 1 0) (getD r (1 + getD r 0 0 / outputBit Special % 2) 0)
 
--- bits 5-4 tell the special format from the general one, which is one byte
+-- the general format is one byte
+abbrev pub moduleBy : Identifier → List ℕ → Found
+moduleBy General r = one (generalOf (getD r 0 0)) 1 0
+moduleBy Special r = specialIn r
+
 unfoldable pub moduleIn : List ℕ → Found
-moduleIn r = pick (eqb (getD r 0 0 / 16 % 4) 0) (specialIn r) (one (generalOf (getD r 0 0)) 1 0)
+moduleIn r = moduleBy (identifierOf (getD r 0 0)) r
 
 -- ---- one step of a walk
 

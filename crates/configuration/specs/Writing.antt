@@ -7,6 +7,7 @@ use lib.ListN.{length}
 use lib.Dec.{eqb, ltb, leb}
 use Rattle.octets.specs.Choice.{pick, _and_}
 use Rattle.octets.specs.Front.{Verdict, fine, fault}
+use Rattle.configuration.specs.Fields.{inputBit, outputBit, mostUnits, wordsBit, consistencyBit}
 use Rattle.configuration.specs.Reading.{readOf}
 use Rattle.configuration.specs.declared.fields.Side.{Side}
 use Rattle.configuration.specs.declared.fields.Side.the-variants.{Absent, Present}
@@ -26,10 +27,10 @@ abbrev pub presence : Side → ℕ
 presence Absent = 0
 presence (Present n w c) = 1
 
--- the units less 1, bit 6 for words, bit 7 for consistency
+-- the units less 1, and the bits for words and for consistency
 abbrev pub sideByte : Side → ℕ
 sideByte Absent = 0
-sideByte (Present n w c) = n - 1 + 64 * bit w + 128 * bit c
+sideByte (Present n w c) = n - 1 + wordsBit * bit w + consistencyBit * bit c
 
 -- how many units there may be
 abbrev pub goodUnits : (most n : ℕ) → Bool
@@ -44,16 +45,16 @@ goodSide most (Present n w c) = goodUnits most n
 -- it has one side, or two that are alike
 unfoldable pub goodGeneral : (input output : Side) → Bool
 goodGeneral Absent Absent = false
-goodGeneral Absent (Present n w c) = goodUnits 16 n
-goodGeneral (Present n w c) Absent = goodUnits 16 n
-goodGeneral (Present n w c) (Present k x d) = eqb k n and Bool·beq x w and Bool·beq d c and goodUnits 16 n
+goodGeneral Absent (Present n w c) = goodUnits (mostUnits General) n
+goodGeneral (Present n w c) Absent = goodUnits (mostUnits General) n
+goodGeneral (Present n w c) (Present k x d) = eqb k n and Bool·beq x w and Bool·beq d c and goodUnits (mostUnits General) n
 
 abbrev pub eitherSide : (input output : Side) → Side
 eitherSide Absent o = o
 eitherSide (Present n w c) o = Present n w c
 
 abbrev pub generalByte : (input output : Side) → ℕ
-generalByte i o = 16 * presence i + 32 * presence o + sideByte (eitherSide i o)
+generalByte i o = inputBit General * presence i + outputBit General * presence o + sideByte (eitherSide i o)
 
 -- it has no vendor bytes: any that are given come before its byte's fault
 unfoldable pub generalVerdict : (input output : Side) (vendor : List ℕ) → Verdict
@@ -66,7 +67,7 @@ sideBytes Absent = []
 sideBytes (Present n w c) = sideByte (Present n w c) ∷ []
 
 abbrev pub specialByte : (input output : Side) (vendor : List ℕ) → ℕ
-specialByte i o vendor = 128 * presence o + 64 * presence i + length vendor
+specialByte i o vendor = outputBit Special * presence o + inputBit Special * presence i + length vendor
 
 -- the identifier, output's length byte, input's, the vendor bytes
 unfoldable pub specialBytes : (input output : Side) (vendor : List ℕ) → List ℕ
@@ -77,7 +78,7 @@ unfoldable pub specialVerdict : (input output : Side) (vendor : List ℕ) → Ve
 specialVerdict i o vendor =
     pick (ltb 15 (length vendor)) (fault 21)
     (pick (eqb (length vendor) 15) (fault 26)
-    (pick (not (goodSide 64 o)) (fault 21) (pick (not (goodSide 64 i)) (fault 21) fine)))
+    (pick (not (goodSide (mostUnits Special) o)) (fault 21) (pick (not (goodSide (mostUnits Special) i)) (fault 21) fine)))
 
 -- ---- a module
 

@@ -24,4 +24,4 @@ module _ (s : List ℕ) (at : ℕ) where
 
   pub is-general : (getD s at 0 / 16 % 4 ≡ 0 → ⊥) → moduleIn (drop at s) ≡ one (generalOf (getD s at 0)) 1 0
   unfolding moduleIn
-  is-general e = rw here (simp (ne-eqb _ _ e))
+  is-general e = rw here (simp (ne-eqb _ _ e) (ap (λ (x : ℕ). one (generalOf x) 1 0) here))

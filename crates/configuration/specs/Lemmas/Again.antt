@@ -14,11 +14,13 @@ use Rattle.octets.specs.Elements.{part-elements}
 use Rattle.octets.specs.Part.{partOf}
 use Rattle.octets.specs.Front.{fine}
 use Rattle.configuration.specs.Fields.{sideOf, generalOf, lengthByte, specialOf}
-use Rattle.configuration.specs.Walk.{Found, one, unfit, frontOf, barred, specialIn, moduleIn}
+use Rattle.configuration.specs.Walk.{Found, one, unfit, frontOf, barred, specialIn, moduleBy, moduleIn}
 use Rattle.configuration.specs.Writing.{bit, presence, sideByte, goodSide, goodGeneral, generalByte, generalVerdict, sideBytes, specialBytes, specialVerdict, moduleVerdict, moduleBytes}
 use Rattle.configuration.specs.Lemmas.Sides.{Units, good-units}
+use Rattle.configuration.specs.Lemmas.Steps.{by-format}
 use Rattle.configuration.specs.declared.fields.Side.{Side}
 use Rattle.configuration.specs.declared.fields.Side.the-variants.{Absent, Present}
+use Rattle.configuration.specs.declared.fields.Identifier.{Identifier}
 use Rattle.configuration.specs.declared.fields.Module.{Module}
 
 -- a bit is read as a flag
@@ -203,11 +205,11 @@ module _ (r : List ℕ) (some : 1 ≤ length r) (bytes : Bytes r) where
   again : AgainIf r (moduleIn r)
   unfolding moduleIn specialIn
   again =
-      by-pick (AgainIf r) (eqb (x / 16 % 4) 0)
+      by-format (λ (k : Identifier). AgainIf r (moduleBy k r)) x
       (λ s. by-pick (AgainIf r) (eqb (x % 16) barred) (λ _. tt)
       (λ v. by-pick (AgainIf r) (ltb (length r) (frontOf x + x % 16)) (λ _. tt)
-      (λ f. special-here (eqb-true (x / 16 % 4) 0 s) (eqb-false (x % 16) barred v) (ltb-false (length r) (frontOf x + x % 16) f))))
-      (λ s. general-here (eqb-false (x / 16 % 4) 0 s))
+      (λ f. special-here s (eqb-false (x % 16) barred v) (ltb-false (length r) (frontOf x + x % 16) f))))
+      (λ s. general-here s)
 
 -- what stands at the front of bytes, written again, is these bytes
 pub module-again : (r : List ℕ) → 1 ≤ length r → Bytes r → {m : Module} {start len : ℕ} → moduleIn r ≡ one m start len → FrontAgain r m start len

@@ -66,7 +66,7 @@ module _ (x n p q : ℕ) (w c : Bool) (e : x ≡ 16 * p + 32 * q + sideByte (Pre
   unfolding moduleIn
   general-here h r g =
       let ne : x / 16 % 4 ≡ 0 → ⊥ = λ z. omega (arith, quarter) in
-      rw g (simp (ne-eqb _ _ ne) (ap (λ (m : Module). one m 1 0) general-back))
+      rw g (simp (ne-eqb _ _ ne) (ap (λ (k : ℕ). one (generalOf k) 1 0) g ∙ ap (λ (m : Module). one m 1 0) general-back))
 
 general-read : (i o : Side) (rest : List ℕ) → goodGeneral i o ≡ true
     → moduleIn (generalByte i o ∷ rest) ≡ one (record { identifier = General; input = i; output = o }) 1 0

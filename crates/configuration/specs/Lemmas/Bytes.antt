@@ -1,19 +1,21 @@
 -- Between the plain conditions on the bytes of a configuration and the walk over its modules.
-use mathlib.Core.Path.{_≡_, ap, ap₂, _∙_, subst}
+use mathlib.Core.Path.{_≡_, refl, ap, ap₂, _∙_, subst}
 use mathlib.Core.List.{List}
 use Prim.Native.Nat.{ℕ, zero, suc, _+_, _*_, _-_, _/_, _%_, _≤_, _<_}
 use native.Mathlib.Omega.{arith}
 use lib.ListN.{length, getD, drop, length-drop}
 use lib.Seq.{getD-drop, drop-length}
 use lib.Dec.{eqb, ltb}
-use borrow.Author.Tests.{ltb-false, le-ltb, eqb-true, eqb-false, ne-eqb}
+use borrow.Author.Tests.{ltb-false, le-ltb, eqb-false, ne-eqb}
 use Rattle.octets.specs.Choice.{pick, by-pick}
-use Rattle.configuration.specs.Fields.{sideIf, generalOf, specialOf, lengthOf}
-use Rattle.configuration.specs.Walk.{Found, one, unfit, frontOf, barred, specialIn, specialBy, moduleIn, stepOf, nextOf, Walk, end, bad, more, walkOf}
+use Rattle.configuration.specs.Fields.{identifierOf, sideIf, generalOf, specialOf, lengthOf}
+use Rattle.configuration.specs.Walk.{Found, one, unfit, frontOf, barred, specialIn, specialBy, moduleBy, moduleIn, stepOf, nextOf, Walk, end, bad, more, walkOf}
 use Rattle.configuration.specs.Reading.{inputOf, outputOf, totalsOf}
 use Rattle.configuration.specs.Contents.{Says}
 use Rattle.configuration.specs.Bytes.{sideSize, generalInput, generalOutput, specialInput, specialOutput, specialLength, ModuleBytes, last, general, special}
-use Rattle.configuration.specs.Lemmas.Steps.{by-next, says, stands}
+use Rattle.configuration.specs.Lemmas.Steps.{by-format, by-next, says, stands}
+use Rattle.configuration.specs.declared.fields.Identifier.{Identifier}
+use Rattle.configuration.specs.declared.fields.Identifier.the-variants.{General, Special}
 use Rattle.configuration.specs.declared.fields.Module.{Module}
 use Rattle.configuration.specs.declared.walk.Step.{Step}
 use Rattle.configuration.specs.declared.walk.Step.the-variants as step
@@ -42,8 +44,14 @@ special-sides x y z = (side-plain (x / 64 % 2) (z % 64 + 1) z (omega arith), sid
 -- ---- the module at a place
 
 -- by the identifier x, of which so many bytes are left, and by the bytes where its length bytes stand
-abbrev moduleBy : (x left y z : ℕ) → Found
-moduleBy x left y z = pick (eqb (x / 16 % 4) 0) (specialBy x left y z) (one (generalOf x) 1 0)
+abbrev foundBy : Identifier → (x left y z : ℕ) → Found
+foundBy General x left y z = one (generalOf x) 1 0
+foundBy Special x left y z = specialBy x left y z
+
+by-numbers : (k : Identifier) (r : List ℕ) → moduleBy k r ≡ foundBy k (getD r 0 0) (length r) (getD r 1 0) (getD r (1 + getD r 0 0 / 128 % 2) 0)
+unfolding specialIn
+by-numbers General r = refl
+by-numbers Special r = refl
 
 module _ (s : List ℕ) (at : ℕ) where
   abbrev head : ℕ
@@ -55,8 +63,8 @@ module _ (s : List ℕ) (at : ℕ) where
   abbrev behind : ℕ
   behind = getD s (at + 1 + head / 128 % 2) 0
 
-  module-at : moduleIn (drop at s) ≡ moduleBy head (length s - at) second behind
-  unfolding moduleIn specialIn
+  module-at : moduleIn (drop at s) ≡ foundBy (identifierOf head) head (length s - at) second behind
+  unfolding moduleIn
   module-at =
       let r : List ℕ = drop at s in
       let e0 : getD r 0 0 ≡ head = getD-drop at s 0 0 ∙ ap (λ (i : ℕ). getD s i 0) (omega arith) in
@@ -64,9 +72,10 @@ module _ (s : List ℕ) (at : ℕ) where
       let e2 : getD r (1 + head / 128 % 2) 0 ≡ behind =
       getD-drop at s (1 + head / 128 % 2) 0 ∙ ap (λ (i : ℕ). getD s i 0) (omega arith) in
       let e3 : length r ≡ length s - at = length-drop at s in
-      ap (λ (x : ℕ). moduleBy x (length r) (getD r 1 0) (getD r (1 + x / 128 % 2) 0)) e0
-      ∙ ap₂ (λ (l y : ℕ). moduleBy head l y (getD r (1 + head / 128 % 2) 0)) e3 e1
-      ∙ ap (moduleBy head (length s - at) second) e2
+      by-numbers (identifierOf (getD r 0 0)) r
+      ∙ ap (λ (x : ℕ). foundBy (identifierOf x) x (length r) (getD r 1 0) (getD r (1 + x / 128 % 2) 0)) e0
+      ∙ ap₂ (λ (l y : ℕ). foundBy (identifierOf head) head l y (getD r (1 + head / 128 % 2) 0)) e3 e1
+      ∙ ap (foundBy (identifierOf head) head (length s - at) second) e2
 
   -- what was found begins the modules from there on, if those behind it are known
   abbrev Begins : Found → Type 0
@@ -89,11 +98,11 @@ module _ (s : List ℕ) (at : ℕ) where
   begins : at < length s → Begins (moduleIn (drop at s))
   begins h =
       rw module-at
-      (by-pick Begins (eqb (head / 16 % 4) 0)
+      (by-format (λ (k : Identifier). Begins (foundBy k head (length s - at) second behind)) head
       (λ z. by-pick Begins (eqb (head % 16) barred) (λ _. tt)
       (λ c. by-pick Begins (ltb (length s - at) (frontOf head + head % 16)) (λ _. tt)
-      (λ f. special-begins h (eqb-true (head / 16 % 4) 0 z) (eqb-false (head % 16) 15 c) (ltb-false (length s - at) (frontOf head + head % 16) f))))
-      (λ z. general-begins h (eqb-false (head / 16 % 4) 0 z)))
+      (λ f. special-begins h z (eqb-false (head % 16) 15 c) (ltb-false (length s - at) (frontOf head + head % 16) f))))
+      (λ z. general-begins h z))
 
   -- the same of a step
   abbrev StepBegins : Step → Type 0

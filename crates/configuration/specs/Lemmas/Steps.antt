@@ -10,14 +10,21 @@ use borrow.Author.Tests.{ltb-true, ltb-false, eqb-true, eqb-false, le-leb}
 use Rattle.octets.specs.Choice.{by-pick}
 use Rattle.octets.specs.Part.{partOf}
 use Rattle.octets.specs.declared.Refusal.{Refusal}
-use Rattle.configuration.specs.Fields.{sideIf, generalOf, specialOf, lengthOf}
-use Rattle.configuration.specs.Walk.{Found, one, unfit, frontOf, barred, specialIn, moduleIn, stepOf, nextOf, end, bad, more, after, walkOf}
+use Rattle.configuration.specs.Fields.{identifierOf, inputBit, outputBit, mostUnits, wordsBit, sideIf, generalOf, specialOf, lengthOf}
+use Rattle.configuration.specs.Walk.{Found, one, unfit, frontOf, barred, specialIn, moduleBy, moduleIn, stepOf, nextOf, end, bad, more, after, walkOf}
 use Rattle.configuration.specs.Reading.{inputOf, outputOf}
 use Rattle.configuration.specs.Contents.{Stands, Says}
+use Rattle.configuration.specs.declared.fields.Identifier.{Identifier}
+use Rattle.configuration.specs.declared.fields.Identifier.the-variants.{General, Special}
 use Rattle.configuration.specs.declared.fields.Module.{Module}
 use Rattle.configuration.specs.declared.walk.Position.{Position}
 use Rattle.configuration.specs.declared.walk.Step.{Step}
 use Rattle.configuration.specs.declared.walk.Step.the-variants as step
+
+-- what holds of both formats, each under its bits 5-4, holds of an identifier's
+pub by-format : (P : Identifier → Type 0) (x : ℕ) → (x / 16 % 4 ≡ 0 → P Special) → ((x / 16 % 4 ≡ 0 → ⊥) → P General) → P (identifierOf x)
+by-format P x special general =
+    by-pick P (eqb (x / 16 % 4) 0) (λ e. special (eqb-true (x / 16 % 4) 0 e)) (λ e. general (eqb-false (x / 16 % 4) 0 e))
 
 -- ---- how large a module is, of which `left` bytes are there
 
@@ -34,7 +41,7 @@ SizedIf left (unfit r) = Unit
 side-small : (b n x : ℕ) → n ≤ 64 → lengthOf (sideIf b n x) ≤ 128
 side-small b n x h =
     by-pick (λ side. lengthOf side ≤ 128) (eqb b 1)
-    (λ _. by-pick (λ k. k ≤ 128) (eqb (x / 64 % 2) 1) (λ _. omega arith) (λ _. omega arith))
+    (λ _. by-pick (λ k. k ≤ 128) (eqb (x / wordsBit % 2) 1) (λ _. omega arith) (λ _. omega arith))
     (λ _. omega arith)
 
 pub sized : (r : List ℕ) → 1 ≤ length r → SizedIf (length r) (moduleIn r)
@@ -42,23 +49,23 @@ unfolding moduleIn specialIn specialOf generalOf
 sized r some =
     let x : ℕ = getD r 0 0 in
     let y : ℕ = getD r 1 0 in
-    let z : ℕ = getD r (1 + x / 128 % 2) 0 in
-    by-pick (SizedIf (length r)) (eqb (x / 16 % 4) 0)
+    let z : ℕ = getD r (1 + x / outputBit Special % 2) 0 in
+    by-format (λ (k : Identifier). SizedIf (length r) (moduleBy k r)) x
     (λ _. by-pick (SizedIf (length r)) (eqb (x % 16) barred) (λ _. tt)
     (λ _. by-pick (SizedIf (length r)) (ltb (length r) (frontOf x + x % 16)) (λ _. tt)
     (λ h.
     record {
       low = omega arith;
       fits = ltb-false (length r) (frontOf x + x % 16) h;
-      input = side-small (x / 64 % 2) (z % 64 + 1) z (omega arith);
-      output = side-small (x / 128 % 2) (y % 64 + 1) y (omega arith);
+      input = side-small (x / inputBit Special % 2) (z % mostUnits Special + 1) z (omega arith);
+      output = side-small (x / outputBit Special % 2) (y % mostUnits Special + 1) y (omega arith);
     })))
     (λ _.
     record {
       low = omega arith;
       fits = some;
-      input = side-small (x / 16 % 2) (x % 16 + 1) x (omega arith);
-      output = side-small (x / 32 % 2) (x % 16 + 1) x (omega arith);
+      input = side-small (x / inputBit General % 2) (x % mostUnits General + 1) x (omega arith);
+      output = side-small (x / outputBit General % 2) (x % mostUnits General + 1) x (omega arith);
     })
 
 -- ---- a walk and a step
