@@ -9,8 +9,9 @@ use lib.ListN.{length, getD}
 use lib.Dec.{eqb, leb}
 use borrow.Author.Tests.{eqb-true, eqb-false, leb-true, not-true, not-false}
 use Rattle.octets.specs.Choice.{never, by-pick, and-left, and-right, by-or}
-use Rattle.typed.specs.Value.{Kind, kindOf, widthIn, widthOf}
+use Rattle.typed.specs.Value.{one, two, four, Kind, boolean, signed, unsigned, floating, kindOf, widthIn, widthOf, valueOf}
 use Rattle.typed.specs.Reading.{goodCode, goodBoolean, readOf}
+use Rattle.typed.specs.declared.value.Value.the-variants.{Boolean}
 use Rattle.typed.specs.declared.reading.Reading.{Reading}
 use Rattle.typed.specs.declared.reading.Reading.the-variants.{Value, Refused}
 
@@ -91,7 +92,19 @@ module _ (s : List ℕ) where
   pub value-accepted : accepted (readOf s) ≡ true ↔ ValueBytes s
   value-accepted = (read-bytes, bytes-read)
 
--- True is a value, and so is a NaN.
-pub values-computed : (accepted (readOf (1 ∷ 255 ∷ [])) ≡ true) × (accepted (readOf (8 ∷ 127 ∷ 192 ∷ 0 ∷ 1 ∷ [])) ≡ true)
-unfolding readOf kindOf
-values-computed = (refl, refl)
+-- Each code of document 01 names its type.
+pub codes-computed :
+    (kindOf 1 ≡ boolean)
+    × (kindOf 2 ≡ signed one) × (kindOf 3 ≡ signed two) × (kindOf 4 ≡ signed four)
+    × (kindOf 5 ≡ unsigned one) × (kindOf 6 ≡ unsigned two) × (kindOf 7 ≡ unsigned four)
+    × (kindOf 8 ≡ floating)
+unfolding kindOf
+codes-computed = (refl, refl, refl, refl, refl, refl, refl, refl)
+
+-- FF is true, 00 is false, and a NaN is a value.
+pub values-computed :
+    (readOf (1 ∷ 255 ∷ []) ≡ Value (Boolean true))
+    × (readOf (1 ∷ 0 ∷ []) ≡ Value (Boolean false))
+    × (accepted (readOf (8 ∷ 127 ∷ 192 ∷ 0 ∷ 1 ∷ [])) ≡ true)
+unfolding readOf kindOf valueOf
+values-computed = (refl, refl, refl)

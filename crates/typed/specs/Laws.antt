@@ -6,13 +6,17 @@ use lib.ListN.{drop}
 use Rattle.octets.specs.Bytes.{Bytes}
 use Rattle.octets.specs.Number.{numberOf}
 use Rattle.octets.specs.Front.{fine}
-use Rattle.typed.specs.Value.{InRange, patternIn}
+use Rattle.typed.specs.Value.{Kind, codeIn, kindOf, patternIn, InRange}
 use Rattle.typed.specs.Reading.{readOf}
 use Rattle.typed.specs.Writing.{verdictOf, bytesFor}
-use Rattle.typed.specs.Lemmas.Back.{back}
+use Rattle.typed.specs.Lemmas.Back.{kind-back, back}
 use Rattle.typed.specs.Lemmas.Again.{Again, again}
 use Rattle.typed.specs.declared.value.Value.{Value}
 use Rattle.typed.specs.declared.reading.Reading.the-variants.{Value as Read}
+
+-- No two kinds share a code: the code of each is read as that kind.
+pub kind-of-code : (k : Kind) → kindOf (codeIn k) ≡ k
+kind-of-code k = kind-back k
 
 -- (a) What is written reads back as the same value. Every value that the code can be given is in range.
 pub reads-back : (v : Value) → InRange v → verdictOf v ≡ fine → readOf (bytesFor v) ≡ Read v

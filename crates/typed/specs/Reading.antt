@@ -1,22 +1,22 @@
 -- Reading a typed value, in document 01's order: an empty value, the code, the length, the byte of a Boolean.
 use Prim.Native.Nat.{ℕ, _+_}
-use mathlib.Core.Bool.{Bool, not}
+use mathlib.Core.Bool.{Bool, true, false, not}
 use mathlib.Core.List.{List}
 use lib.ListN.{length, getD, drop}
 use lib.Dec.{eqb, leb}
 use Rattle.octets.specs.Choice.{pick, _and_, _or_}
 use Rattle.octets.specs.Number.{numberOf}
-use Rattle.typed.specs.Value.{kindOf, widthOf, valueOf}
+use Rattle.typed.specs.Value.{boolean, floating, codeIn, kindOf, widthOf, booleanByte, valueOf}
 use Rattle.typed.specs.declared.reading.Reading.{Reading}
 use Rattle.typed.specs.declared.reading.Reading.the-variants.{Value, Refused}
 
 -- codes 1..8
 abbrev pub goodCode : ℕ → Bool
-goodCode c = not (eqb c 0) and leb c 8
+goodCode c = not (eqb c 0) and leb c (codeIn floating)
 
--- the byte of a Boolean, code 1, is 00 or FF
+-- the byte of a Boolean is that of false or of true
 abbrev pub goodBoolean : (code first : ℕ) → Bool
-goodBoolean c x = not (eqb c 1) or eqb x 0 or eqb x 255
+goodBoolean c x = not (eqb c (codeIn boolean)) or eqb x (booleanByte false) or eqb x (booleanByte true)
 
 abbrev pub refused : ℕ → Reading
 refused k = Refused (record { number = k })

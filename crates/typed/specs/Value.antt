@@ -1,6 +1,7 @@
 -- Typed values (document 01, "Typed values"): Boolean, signed 8/16/32, unsigned 8/16/32 and floating point have the codes
 -- 1..8. A value's pattern is the unsigned number that its bytes are, high byte first.
 use Prim.Native.Nat.{ℕ, _<_, _^_}
+use mathlib.Core.Bool.{Bool, true, false}
 use lib.Dec.{T, eqb}
 use lib.IntN.{ℤ}
 use lib.Ieee.{binary32, fits, toBits}
@@ -14,18 +15,6 @@ use Rattle.typed.specs.declared.value.Value.{Value}
 use Rattle.typed.specs.declared.value.Value.the-variants.{Boolean, I8, I16, I32, U8, U16, U32, Float, Nan}
 
 -- ---- codes
-
--- the code of each case
-abbrev pub codeOf : Value → ℕ
-codeOf (Boolean b) = 1
-codeOf (I8 z) = 2
-codeOf (I16 z) = 3
-codeOf (I32 z) = 4
-codeOf (U8 n) = 5
-codeOf (U16 n) = 6
-codeOf (U32 n) = 7
-codeOf (Float x) = 8
-codeOf (Nan n) = 8
 
 -- the three widths of integers
 pub data Size : Type 0 where
@@ -43,16 +32,27 @@ pub data Kind : Type 0 where
   unsigned : Size → Kind
   floating : Kind
 
+-- the code of each
+abbrev pub codeIn : Kind → ℕ
+codeIn boolean = 1
+codeIn (signed one) = 2
+codeIn (signed two) = 3
+codeIn (signed four) = 4
+codeIn (unsigned one) = 5
+codeIn (unsigned two) = 6
+codeIn (unsigned four) = 7
+codeIn floating = 8
+
 -- by the code; it is asked of no code but 1..8
 unfoldable pub kindOf : (code : ℕ) → Kind
 kindOf c =
-    pick (eqb c 1) boolean
-    (pick (eqb c 2) (signed one)
-    (pick (eqb c 3) (signed two)
-    (pick (eqb c 4) (signed four)
-    (pick (eqb c 5) (unsigned one)
-    (pick (eqb c 6) (unsigned two)
-    (pick (eqb c 7) (unsigned four) floating))))))
+    pick (eqb c (codeIn boolean)) boolean
+    (pick (eqb c (codeIn (signed one))) (signed one)
+    (pick (eqb c (codeIn (signed two))) (signed two)
+    (pick (eqb c (codeIn (signed four))) (signed four)
+    (pick (eqb c (codeIn (unsigned one))) (unsigned one)
+    (pick (eqb c (codeIn (unsigned two))) (unsigned two)
+    (pick (eqb c (codeIn (unsigned four))) (unsigned four) floating))))))
 
 -- how many bytes they are
 abbrev pub widthIn : Kind → ℕ
@@ -64,11 +64,31 @@ widthIn floating = 4
 abbrev pub widthOf : (code : ℕ) → ℕ
 widthOf c = widthIn (kindOf c)
 
+-- what each case of a value is
+abbrev pub kindIn : Value → Kind
+kindIn (Boolean b) = boolean
+kindIn (I8 z) = signed one
+kindIn (I16 z) = signed two
+kindIn (I32 z) = signed four
+kindIn (U8 n) = unsigned one
+kindIn (U16 n) = unsigned two
+kindIn (U32 n) = unsigned four
+kindIn (Float x) = floating
+kindIn (Nan n) = floating
+
+abbrev pub codeOf : Value → ℕ
+codeOf v = codeIn (kindIn v)
+
 -- ---- a value and its pattern
 
--- the pattern of a value: true is FF, a signed number is in two's complement, a floating-point value has its 32 bits
+-- the byte of a Boolean
+abbrev pub booleanByte : Bool → ℕ
+booleanByte true = 0xFF
+booleanByte false = 0x00
+
+-- the pattern of a value: a signed number is in two's complement, a floating-point value has its 32 bits
 abbrev pub patternIn : Value → ℕ
-patternIn (Boolean b) = pick b 255 0
+patternIn (Boolean b) = booleanByte b
 patternIn (I8 z) = ofZ w8 z
 patternIn (I16 z) = ofZ w16 z
 patternIn (I32 z) = ofZ w32 z
@@ -106,7 +126,7 @@ floatingValue (Number x) = Float x
 floatingValue (NanBits n) = Nan n
 
 unfoldable pub valueOf : Kind → (pattern : ℕ) → Value
-valueOf boolean n = Boolean (eqb n 255)
+valueOf boolean n = Boolean (eqb n (booleanByte true))
 valueOf (signed s) n = signedValue s (toZ (bitsOf s) n)
 valueOf (unsigned s) n = unsignedValue s n
 valueOf floating n = floatingValue (floatingOf n)

@@ -8,7 +8,7 @@ use Rattle.octets.specs.Choice.{pick}
 use Rattle.octets.specs.Number.{bytesOf}
 use Rattle.octets.specs.Front.{Verdict, fine, fault}
 use Rattle.float.specs.Float.{isNanPattern}
-use Rattle.typed.specs.Value.{codeOf, widthOf, patternIn}
+use Rattle.typed.specs.Value.{widthIn, kindIn, codeOf, patternIn}
 use Rattle.typed.specs.declared.value.Value.{Value}
 use Rattle.typed.specs.declared.value.Value.the-variants.{Boolean, I8, I16, I32, U8, U16, U32, Float, Nan}
 
@@ -25,4 +25,4 @@ verdictOf (Float x) = pick (isNan x) (fault 12) fine
 verdictOf (Nan n) = pick (not (isNanPattern n)) (fault 12) fine
 
 abbrev pub bytesFor : Value → List ℕ
-bytesFor v = codeOf v ∷ bytesOf (widthOf (codeOf v)) (patternIn v)
+bytesFor v = codeOf v ∷ bytesOf (widthIn (kindIn v)) (patternIn v)

@@ -1,6 +1,23 @@
 // The values.
 
-// One case for each code, 1 to 8 in this order; the last two share code 8. A floating-point value
+// Their codes.
+pub const BOOLEAN: u8 = 1;
+
+pub const SIGNED_8: u8 = 2;
+
+pub const SIGNED_16: u8 = 3;
+
+pub const SIGNED_32: u8 = 4;
+
+pub const UNSIGNED_8: u8 = 5;
+
+pub const UNSIGNED_16: u8 = 6;
+
+pub const UNSIGNED_32: u8 = 7;
+
+pub const FLOATING_POINT: u8 = 8;
+
+// One case for each code in this order; the last two share one. A floating-point value
 // keeps its 32 bits exactly: a NaN's pattern, which no `f32` can be had of, is kept as a number.
 pub enum Value {
     Boolean(bool),

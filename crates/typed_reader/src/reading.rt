@@ -10,7 +10,15 @@ use crate::signed::signed16;
 use crate::signed::signed32;
 use float::Floating;
 use octets::Refusal;
+use typed::BOOLEAN;
+use typed::FLOATING_POINT;
 use typed::Reading;
+use typed::SIGNED_8;
+use typed::SIGNED_16;
+use typed::SIGNED_32;
+use typed::UNSIGNED_8;
+use typed::UNSIGNED_16;
+use typed::UNSIGNED_32;
 use typed::Value;
 
 // Codes 1 to 8.
@@ -20,7 +28,7 @@ fn good_code(code: u8) -> bool
     if code == 0 {
         return false;
     }
-    code <= 8
+    code <= FLOATING_POINT
 }
 
 // How many bytes follow a code.
@@ -28,21 +36,21 @@ fn width(code: u8) -> usize
     ensures { λ r. ⌜ r ≡ widthOf code ⌝ }
 {
     match code {
-        1 => 1,
-        2 => 1,
-        3 => 2,
-        4 => 4,
-        5 => 1,
-        6 => 2,
+        BOOLEAN => 1,
+        SIGNED_8 => 1,
+        SIGNED_16 => 2,
+        SIGNED_32 => 4,
+        UNSIGNED_8 => 1,
+        UNSIGNED_16 => 2,
         _ => 4,
     }
 }
 
-// The byte of a Boolean, code 1, is 00 or FF; of any other value it is any.
+// The byte of a Boolean is 00 or FF; of any other value it is any.
 fn good_boolean(code: u8, first: u8) -> bool
     ensures { λ r. ⌜ r ≡ goodBoolean code first ⌝ }
 {
-    if code != 1 {
+    if code != BOOLEAN {
         return true;
     }
     if first == 0 {
@@ -84,13 +92,13 @@ fn value(code: u8, bytes: &[u8]) -> Value
     ensures { λ r. ⌜ r ≡ valueOf (kindOf code) (numberOf (drop 1 (now (bytes .entry)))) ⌝ }
 {
     match code {
-        1 => Value::Boolean(bytes[1] == 0xFF),
-        2 => Value::I8(signed8(bytes[1])),
-        3 => Value::I16(signed16(word(bytes))),
-        4 => Value::I32(signed32(long(bytes))),
-        5 => Value::U8(bytes[1]),
-        6 => Value::U16(word(bytes)),
-        7 => Value::U32(long(bytes)),
+        BOOLEAN => Value::Boolean(bytes[1] == 0xFF),
+        SIGNED_8 => Value::I8(signed8(bytes[1])),
+        SIGNED_16 => Value::I16(signed16(word(bytes))),
+        SIGNED_32 => Value::I32(signed32(long(bytes))),
+        UNSIGNED_8 => Value::U8(bytes[1]),
+        UNSIGNED_16 => Value::U16(word(bytes)),
+        UNSIGNED_32 => Value::U32(long(bytes)),
         _ => float(long(bytes)),
     }
 }

@@ -4,18 +4,26 @@ ghost use mathlib.Core.List.{_∷_};
 ghost use lib.ListN.{length};
 ghost use Rattle.octets.specs.Number.{bytesOf};
 ghost use Rattle.octets.specs.Front.{fine, answerBy, heldBy};
-ghost use Rattle.typed.specs.Value.{patternIn};
+ghost use Rattle.typed.specs.Value.{booleanByte};
 ghost use Rattle.typed.specs.Writing.{verdictOf, bytesFor};
 use crate::signed::pattern8;
 use crate::signed::pattern16;
 use crate::signed::pattern32;
 use float::Pattern;
 use octets::Written;
+use typed::BOOLEAN;
+use typed::FLOATING_POINT;
+use typed::SIGNED_8;
+use typed::SIGNED_16;
+use typed::SIGNED_32;
+use typed::UNSIGNED_8;
+use typed::UNSIGNED_16;
+use typed::UNSIGNED_32;
 use typed::Value;
 
 // The byte of a Boolean.
 fn boolean_byte(yes: bool) -> u8
-    ensures { λ r. ⌜ r ≡ patternIn (Value.Boolean yes) ⌝ }
+    ensures { λ r. ⌜ r ≡ booleanByte yes ⌝ }
 {
     if yes { 0xFF } else { 0 }
 }
@@ -64,7 +72,7 @@ fn write_float(number: f32, out: &mut [u8]) -> Written
 {
     let pattern = float::pattern_of(number);
     match pattern {
-        Pattern::Bits(bits) => write32(8, bits, out),
+        Pattern::Bits(bits) => write32(FLOATING_POINT, bits, out),
         Pattern::Unknown => Written::Refused(12),
     }
 }
@@ -77,7 +85,7 @@ fn write_nan(bits: u32, out: &mut [u8]) -> Written
     if !float::is_nan_pattern(bits) {
         return Written::Refused(12);
     }
-    write32(8, bits, out)
+    write32(FLOATING_POINT, bits, out)
 }
 
 // Writes a typed value.
@@ -86,13 +94,13 @@ pub fn write(value: Value, out: &mut [u8]) -> Written
     ensures bytes { λ _. ⌜ now (out .exit) ≡ heldBy (verdictOf value) (bytesFor value) (now (out .entry)) ⌝ }
 {
     match value {
-        Value::Boolean(yes) => write8(1, boolean_byte(yes), out),
-        Value::I8(z) => write8(2, pattern8(z), out),
-        Value::I16(z) => write16(3, pattern16(z), out),
-        Value::I32(z) => write32(4, pattern32(z), out),
-        Value::U8(n) => write8(5, n, out),
-        Value::U16(n) => write16(6, n, out),
-        Value::U32(n) => write32(7, n, out),
+        Value::Boolean(yes) => write8(BOOLEAN, boolean_byte(yes), out),
+        Value::I8(z) => write8(SIGNED_8, pattern8(z), out),
+        Value::I16(z) => write16(SIGNED_16, pattern16(z), out),
+        Value::I32(z) => write32(SIGNED_32, pattern32(z), out),
+        Value::U8(n) => write8(UNSIGNED_8, n, out),
+        Value::U16(n) => write16(UNSIGNED_16, n, out),
+        Value::U32(n) => write32(UNSIGNED_32, n, out),
         Value::Float(x) => write_float(x, out),
         Value::Nan(bits) => write_nan(bits, out),
     }

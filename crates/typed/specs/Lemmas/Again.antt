@@ -13,14 +13,14 @@ use lib.Ieee.{binary32, ofBits}
 use mir.Val.{bytes, bits, toZ, ofZ}
 use mir.Facts.{ofZ-toZ}
 use borrow.Author.Tests.{eqb-true, eqb-false, leb-true, not-true, not-false}
-use Rattle.octets.specs.Choice.{pick, _or_, by-pick, and-left, and-right}
+use Rattle.octets.specs.Choice.{pick, _or_, never, by-pick, and-left, and-right, by-or}
 use Rattle.octets.specs.Bytes.{Bytes}
 use Rattle.octets.specs.Elements.{rest-elements}
 use Rattle.octets.specs.Number.{numberOf, bytesOf, bytes-number, number-small}
 use Rattle.octets.specs.Front.{fine}
 use Rattle.float.specs.Float.{isNanPattern, floatingOf, pattern-back, known}
 use Rattle.float.specs.declared.Floating.{Floating}
-use Rattle.typed.specs.Value.{Size, one, two, four, bitsOf, Kind, boolean, signed, unsigned, floating, codeOf, kindOf, widthIn, widthOf, patternIn, signedValue, unsignedValue, floatingValue, valueOf}
+use Rattle.typed.specs.Value.{Size, one, two, four, bitsOf, Kind, boolean, signed, unsigned, floating, codeIn, kindOf, widthIn, widthOf, kindIn, booleanByte, patternIn, signedValue, unsignedValue, floatingValue, valueOf}
 use Rattle.typed.specs.Reading.{goodCode, goodBoolean, readOf}
 use Rattle.typed.specs.Writing.{verdictOf, bytesFor}
 use Rattle.typed.specs.declared.value.Value.{Value}
@@ -29,47 +29,37 @@ use Rattle.typed.specs.declared.reading.Reading.the-variants.{Value as R
 
 -- ---- codes
 
-abbrev codeIn : Kind → ℕ
-codeIn boolean = 1
-codeIn (signed one) = 2
-codeIn (signed two) = 3
-codeIn (signed four) = 4
-codeIn (unsigned one) = 5
-codeIn (unsigned two) = 6
-codeIn (unsigned four) = 7
-codeIn floating = 8
-
 -- the kind of a code has that code
 module _ (c : ℕ) (good : goodCode c ≡ true) where
-  step : (n : ℕ) (k l : Kind) → codeIn k ≡ n → n ≤ c → (n + 1 ≤ c → codeIn l ≡ c) → codeIn (pick (eqb c n) k l) ≡ c
-  step n k l e h f =
-      by-pick (λ (x : Kind). codeIn x ≡ c) (eqb c n) (λ t. e ∙ sym (eqb-true c n t))
-      (λ t. f (let other : c ≡ n → ⊥ = eqb-false c n t in omega arith))
+  step : (k l : Kind) → codeIn k ≤ c → (codeIn k + 1 ≤ c → codeIn l ≡ c) → codeIn (pick (eqb c (codeIn k)) k l) ≡ c
+  step k l h f =
+      by-pick (λ (x : Kind). codeIn x ≡ c) (eqb c (codeIn k)) (λ t. sym (eqb-true c (codeIn k) t))
+      (λ t. f (let other : c ≡ codeIn k → ⊥ = eqb-false c (codeIn k) t in omega arith))
 
   code-kept : codeIn (kindOf c) ≡ c
   unfolding kindOf
   code-kept =
-      let some : c ≡ 0 → ⊥ = eqb-false c 0 (not-true _ (and-left (not (eqb c 0)) (leb c 8) good)) in
-      let most : c ≤ 8 = leb-true c 8 (and-right (not (eqb c 0)) (leb c 8) good) in
-      step 1 _ _ refl (omega arith)
-      (λ h. step 2 _ _ refl h
-      (λ h. step 3 _ _ refl h
-      (λ h. step 4 _ _ refl h
-      (λ h. step 5 _ _ refl h
-      (λ h. step 6 _ _ refl h
-      (λ h. step 7 _ _ refl h
+      let some : c ≡ 0 → ⊥ = eqb-false c 0 (not-true _ (and-left (not (eqb c 0)) (leb c (codeIn floating)) good)) in
+      let most : c ≤ codeIn floating = leb-true c (codeIn floating) (and-right (not (eqb c 0)) (leb c (codeIn floating)) good) in
+      step boolean _ (omega arith)
+      (λ h. step (signed one) _ h
+      (λ h. step (signed two) _ h
+      (λ h. step (signed four) _ h
+      (λ h. step (unsigned one) _ h
+      (λ h. step (unsigned two) _ h
+      (λ h. step (unsigned four) _ h
       (λ h. omega arith)))))))
 
-value-code : (k : Kind) (n : ℕ) → codeOf (valueOf k n) ≡ codeIn k
+value-kind : (k : Kind) (n : ℕ) → kindIn (valueOf k n) ≡ k
 unfolding valueOf
-value-code boolean n = refl
-value-code (signed one) n = refl
-value-code (signed two) n = refl
-value-code (signed four) n = refl
-value-code (unsigned one) n = refl
-value-code (unsigned two) n = refl
-value-code (unsigned four) n = refl
-value-code floating n = by-pick (λ (f : Floating). codeOf (floatingValue f) ≡ 8) (isNanPattern n) (λ _. refl) (λ _. refl)
+value-kind boolean n = refl
+value-kind (signed one) n = refl
+value-kind (signed two) n = refl
+value-kind (signed four) n = refl
+value-kind (unsigned one) n = refl
+value-kind (unsigned two) n = refl
+value-kind (unsigned four) n = refl
+value-kind floating n = by-pick (λ (f : Floating). kindIn (floatingValue f) ≡ floating) (isNanPattern n) (λ _. refl) (λ _. refl)
 
 -- ---- patterns
 
@@ -77,12 +67,9 @@ value-code floating n = by-pick (λ (f : Floating). codeOf (floatingValue f) ≡
 abbrev Keeps : (pattern : ℕ) → Value → Type 0
 Keeps n v = (verdictOf v ≡ fine) × (patternIn v ≡ n)
 
-or-left : (a b : Bool) → (a or b) ≡ true → b ≡ false → a ≡ true
-or-left true b e f = refl
-or-left false b e f = sym f ∙ e
-
-boolean-keeps : (n : ℕ) → (eqb n 0 or eqb n 255) ≡ true → pick (eqb n 255) 255 0 ≡ n
-boolean-keeps n e = by-pick (λ (x : ℕ). x ≡ n) (eqb n 255) (λ t. sym (eqb-true n 255 t)) (λ t. sym (eqb-true n 0 (or-left (eqb n 0) (eqb n 255) e t)))
+boolean-keeps : (n : ℕ) (yes : Bool) → eqb n (booleanByte true) ≡ yes → (eqb n (booleanByte false) or yes) ≡ true → booleanByte yes ≡ n
+boolean-keeps n true e either = sym (eqb-true n (booleanByte true) e)
+boolean-keeps n false e either = by-or (eqb n (booleanByte false)) false either (λ t. sym (eqb-true n (booleanByte false) t)) (λ t. absurd (never t))
 
 -- integers, once for every width
 signed-keeps : (s : Size) (z : ℤ) (n : ℕ) → ofZ (bitsOf s) z ≡ n → Keeps n (signedValue s z)
@@ -105,9 +92,9 @@ floating-keeps n h =
     by-pick (λ (f : Floating). Keeps n (floatingValue f)) (isNanPattern n) (λ t. (simp t, refl))
     (λ t. let k = known (ofBits binary32 n) (rw t at (pattern-back n h)) in (rw (k .0), k .1))
 
-keeps : (k : Kind) (n : ℕ) → n < 256 ^ widthIn k → (k ≡ boolean → (eqb n 0 or eqb n 255) ≡ true) → Keeps n (valueOf k n)
+keeps : (k : Kind) (n : ℕ) → n < 256 ^ widthIn k → (k ≡ boolean → (eqb n (booleanByte false) or eqb n (booleanByte true)) ≡ true) → Keeps n (valueOf k n)
 unfolding valueOf
-keeps boolean n h e = (refl, boolean-keeps n (e refl))
+keeps boolean n h e = (refl, boolean-keeps n (eqb n (booleanByte true)) refl (e refl))
 keeps (signed s) n h e = signed-keeps s (toZ (bitsOf s) n) n (ofZ-toZ {w = bitsOf s} (record { fits = rw (as-bits s) at h }))
 keeps (unsigned s) n h e = unsigned-keeps s n
 keeps floating n h e = floating-keeps n h
@@ -140,9 +127,9 @@ module _ (s : List ℕ) (all : Bytes s) where
     small = rw behind-long at (number-small (drop 1 s) behind-bytes)
 
     -- of a Boolean, the byte is the pattern
-    bool : kindOf code ≡ boolean → (eqb pattern 0 or eqb pattern 255) ≡ true
+    bool : kindOf code ≡ boolean → (eqb pattern (booleanByte false) or eqb pattern (booleanByte true)) ≡ true
     bool e =
-        let c : code ≡ 1 = sym (code-kept code good) ∙ ap codeIn e in
+        let c : code ≡ codeIn boolean = sym (code-kept code good) ∙ ap codeIn e in
         let two : length s ≡ 2 = sized ∙ ap (λ (k : Kind). 1 + widthIn k) e in
         rw (single s two) at (rw c at first)
 
@@ -151,8 +138,8 @@ module _ (s : List ℕ) (all : Bytes s) where
 
     same : bytesFor (valueOf (kindOf code) pattern) ≡ s
     same =
-        ap₂ (λ (c n : ℕ). c ∷ bytesOf (widthOf c) n) (value-code (kindOf code) pattern ∙ code-kept code good) (kept .1)
-        ∙ ap (λ (w : ℕ). code ∷ bytesOf w pattern) (sym behind-long)
+        ap₂ (λ (k : Kind) (n : ℕ). codeIn k ∷ bytesOf (widthIn k) n) (value-kind (kindOf code) pattern) (kept .1)
+        ∙ ap₂ (λ (c w : ℕ). c ∷ bytesOf w pattern) (code-kept code good) (sym behind-long)
         ∙ ap (λ (l : List ℕ). code ∷ l) (bytes-number (drop 1 s) behind-bytes)
         ∙ sym (drop-cons s 0 0 (omega arith))
 

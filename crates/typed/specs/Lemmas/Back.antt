@@ -1,6 +1,6 @@
 -- From a value to its bytes and back.
 use Prim.Native.Nat.{ℕ, _<_, _^_}
-use mathlib.Core.Path.{_≡_, refl, ap, _∙_}
+use mathlib.Core.Path.{_≡_, refl, ap, ap₂, _∙_}
 use mathlib.Core.Bool.{true, false, not}
 use lib.Dec.{lit<}
 use lib.IntN.{ℤ}
@@ -14,20 +14,31 @@ use Rattle.octets.specs.Number.{numberOf, bytesOf, number-bytes}
 use Rattle.octets.specs.Front.{fine}
 use Rattle.octets.specs.Fixed.{passed}
 use Rattle.float.specs.Float.{isNanPattern, number-back}
-use Rattle.typed.specs.Value.{InRange, codeOf, kindOf, widthOf, patternIn, floatingValue, valueOf}
+use Rattle.typed.specs.Value.{one, two, four, Kind, boolean, signed, unsigned, floating, codeIn, kindOf, widthIn, kindIn, codeOf, patternIn, InRange, floatingValue, valueOf}
 use Rattle.typed.specs.Reading.{readOf}
 use Rattle.typed.specs.Writing.{verdictOf, bytesFor}
 use Rattle.typed.specs.declared.value.Value.{Value}
 use Rattle.typed.specs.declared.value.Value.the-variants.{Boolean, I8, I16, I32, U8, U16, U32, Float, Nan}
 use Rattle.typed.specs.declared.reading.Reading.the-variants.{Value as Read}
 
+-- each kind is that of its code
+pub kind-back : (k : Kind) → kindOf (codeIn k) ≡ k
+unfolding kindOf
+kind-back boolean = refl
+kind-back (signed one) = refl
+kind-back (signed two) = refl
+kind-back (signed four) = refl
+kind-back (unsigned one) = refl
+kind-back (unsigned two) = refl
+kind-back (unsigned four) = refl
+kind-back floating = refl
+
 -- the pattern of a signed number fits its width
 signed-small : (w : Width) (z : ℤ) → SFits w z → ofZ w z < 2 ^ bits w
 signed-small w z r = fits-ofZ {w = w} {z = z} r .fits
 
 -- so the pattern of a value fits the bytes behind its code
-pattern-small : (v : Value) → InRange v → patternIn v < 256 ^ widthOf (codeOf v)
-unfolding kindOf
+pattern-small : (v : Value) → InRange v → patternIn v < 256 ^ widthIn (kindIn v)
 pattern-small (Boolean true) r = lit< tt
 pattern-small (Boolean false) r = lit< tt
 pattern-small (I8 z) r = signed-small w8 z r
@@ -39,9 +50,9 @@ pattern-small (U32 n) r = r
 pattern-small (Float x) r = toBits-lt binary32 x r
 pattern-small (Nan n) r = r
 
--- a value that may be written is the value of its code and its pattern
-value-back : (v : Value) → InRange v → verdictOf v ≡ fine → valueOf (kindOf (codeOf v)) (patternIn v) ≡ v
-unfolding kindOf valueOf
+-- a value that may be written is the value of its kind and its pattern
+value-back : (v : Value) → InRange v → verdictOf v ≡ fine → valueOf (kindIn v) (patternIn v) ≡ v
+unfolding valueOf
 value-back (Boolean true) r e = refl
 value-back (Boolean false) r e = refl
 value-back (I8 z) r e = ap I8 (toZ-ofZ r)
@@ -54,7 +65,7 @@ value-back (Float x) r e = ap floatingValue (number-back x r (passed 12 (isNan x
 value-back (Nan n) r e = simp (not-false (isNanPattern n) (passed 12 (not (isNanPattern n)) fine e .0))
 
 -- its bytes pass every test of the reader
-accepted : (v : Value) → readOf (bytesFor v) ≡ Read (valueOf (kindOf (codeOf v)) (numberOf (bytesOf (widthOf (codeOf v)) (patternIn v))))
+accepted : (v : Value) → readOf (bytesFor v) ≡ Read (valueOf (kindOf (codeOf v)) (numberOf (bytesOf (widthIn (kindIn v)) (patternIn v))))
 unfolding kindOf readOf
 accepted (Boolean true) = refl
 accepted (Boolean false) = refl
@@ -70,5 +81,5 @@ accepted (Nan n) = refl
 pub back : (v : Value) → InRange v → verdictOf v ≡ fine → readOf (bytesFor v) ≡ Read v
 back v r e =
     accepted v
-    ∙ ap (λ (n : ℕ). Read (valueOf (kindOf (codeOf v)) n)) (number-bytes (widthOf (codeOf v)) (patternIn v) (pattern-small v r))
+    ∙ ap₂ (λ (k : Kind) (n : ℕ). Read (valueOf k n)) (kind-back (kindIn v)) (number-bytes (widthIn (kindIn v)) (patternIn v) (pattern-small v r))
     ∙ ap Read (value-back v r e)

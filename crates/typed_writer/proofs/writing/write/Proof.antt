@@ -1,7 +1,6 @@
 -- `typed_writer::writing::write` meets its contract: each arm writes the code and the pattern of its case.
 use mir.Syntax.{w8, w16, w32}
 use borrow.Author.Needs.{needs}
-use Rattle.typed.specs.Value.{kindOf}
 use Rattle.typed.specs.Lemmas.Complement.{out-of}
 use Rattle.typed_writer.proofs.writing.write.Statement.{statement}
 use Rattle.typed_writer.proofs.writing.write.Tie as tie
@@ -76,7 +75,6 @@ same-length : tie.Need-same-length
 same-length c = search needs
 
 returns : tie.Need-returns
-unfolding kindOf
 returns c =
     let w = c .before .before in
     let p = w .before .before in
@@ -86,7 +84,6 @@ same-length-2 : tie.Need-same-length-2
 same-length-2 c = search needs
 
 returns-2 : tie.Need-returns-2
-unfolding kindOf
 returns-2 c =
     let w = c .before .before in
     let p = w .before .before in
@@ -97,7 +94,6 @@ same-length-3 : tie.Need-same-length-3
 same-length-3 c = search needs
 
 returns-3 : tie.Need-returns-3
-unfolding kindOf
 returns-3 c =
     let w = c .before .before in
     let p = w .before .before in
@@ -108,7 +104,6 @@ same-length-4 : tie.Need-same-length-4
 same-length-4 c = search needs
 
 returns-4 : tie.Need-returns-4
-unfolding kindOf
 returns-4 c =
     let w = c .before .before in
     let p = w .before .before in
@@ -119,7 +114,6 @@ same-length-5 : tie.Need-same-length-5
 same-length-5 c = search needs
 
 returns-5 : tie.Need-returns-5
-unfolding kindOf
 returns-5 c =
     let w = c .before .before in
     rw (w .before .before .before .value5 .given .1) (w .write83 .ensures)
@@ -128,7 +122,6 @@ same-length-6 : tie.Need-same-length-6
 same-length-6 c = search needs
 
 returns-6 : tie.Need-returns-6
-unfolding kindOf
 returns-6 c =
     let w = c .before .before in
     rw (w .before .before .before .value6 .given .1) (w .write162 .ensures)
@@ -137,7 +130,6 @@ same-length-7 : tie.Need-same-length-7
 same-length-7 c = search needs
 
 returns-7 : tie.Need-returns-7
-unfolding kindOf
 returns-7 c =
     let w = c .before .before in
     rw (w .before .before .before .value7 .given .1) (w .write322 .ensures)
@@ -146,7 +138,6 @@ same-length-8 : tie.Need-same-length-8
 same-length-8 c = search needs
 
 returns-8 : tie.Need-returns-8
-unfolding kindOf
 returns-8 c =
     let w = c .before .before in
     rw (w .before .before .before .value8 .given .1) (w .write-float .ensures)
@@ -155,7 +146,6 @@ same-length-9 : tie.Need-same-length-9
 same-length-9 c = search needs
 
 returns-9 : tie.Need-returns-9
-unfolding kindOf
 returns-9 c =
     let w = c .before .before in
     rw (w .before .before .before .value9 .given .1) (w .write-nan .ensures)

@@ -4,7 +4,6 @@ use denote.Ref.{now}
 use borrow.Author.Needs.{needs}
 use Rattle.octets.specs.Front.{refused}
 use Rattle.float.specs.Float.{known, unknown}
-use Rattle.typed.specs.Value.{kindOf}
 use Rattle.typed.specs.Writing.{bytesFor}
 use Rattle.typed.specs.declared.value.Value.the-variants.{Float}
 use Rattle.typed_writer.proofs.writing.write_float.Statement.{statement}
@@ -26,7 +25,6 @@ same-length : tie.Need-same-length
 same-length c = search needs
 
 returns : tie.Need-returns
-unfolding kindOf
 returns c =
     let w = c .before .before in
     let p = w .before .before .before in

@@ -4,7 +4,6 @@ use mathlib.Core.Bool.{not}
 use denote.Ref.{now}
 use borrow.Author.Needs.{needs}
 use Rattle.octets.specs.Front.{refused}
-use Rattle.typed.specs.Value.{kindOf}
 use Rattle.typed.specs.Writing.{bytesFor}
 use Rattle.typed.specs.declared.value.Value.the-variants.{Nan}
 use Rattle.typed_writer.proofs.writing.write_nan.Statement.{statement}
@@ -26,7 +25,6 @@ same-length : tie.Need-same-length
 same-length c = search needs
 
 returns-2 : tie.Need-returns-2
-unfolding kindOf
 returns-2 c =
     let w = c .before .before in
     let e = w .before .before in
