@@ -12,7 +12,7 @@ use Rattle.fdl.specs.Writing.{telegramOf, verdictOf, tokenBytes, tokenVerdict, 
 use Rattle.fdl.specs.declared.telegram.Header.{Header}
 use Rattle.fdl.specs.declared.telegram.Sap.{Sap}
 use Rattle.fdl.specs.declared.telegram.Sap.the-variants.{Absent, Present}
-use Rattle.fields.specs.Kinds.{formatNumber, kindOf}
+use Rattle.fields.specs.Kinds.{confirmationNumber, tokenNumber, formatNumber, kindOf}
 use Rattle.fields.specs.declared.kinds.Kind.{Kind}
 use Rattle.fields.specs.declared.kinds.Kind.the-variants as kind
 use Rattle.fdl.specs.declared.reading.Reading.{Reading}
@@ -20,12 +20,16 @@ use Rattle.fdl.specs.declared.reading.Reading.the-variants.{Confirmation, Token
 
 -- ---- the numbers of the fields
 
+-- that of no access point
+abbrev pub noSap : ℕ
+noSap = 255
+
 abbrev pub sapNumber : Sap → ℕ
-sapNumber Absent = 255
+sapNumber Absent = noSap
 sapNumber (Present x) = x
 
 abbrev pub sapOf : ℕ → Sap
-sapOf n = pick (eqb n 255) Absent (Present n)
+sapOf n = pick (eqb n noSap) Absent (Present n)
 
 -- ---- reading
 
@@ -41,8 +45,8 @@ telegramFields kind h start len = kind ∷ h .da ∷ h .sa ∷ h .fc ∷ sapNumb
 
 -- what the lent fields hold then
 abbrev pub fieldsAfter : Reading → (before : List ℕ) → List ℕ
-fieldsAfter Confirmation before = 0 ∷ 0 ∷ 0 ∷ 0 ∷ 255 ∷ 255 ∷ 0 ∷ 0 ∷ []
-fieldsAfter (Token da sa) before = 1 ∷ da ∷ sa ∷ 0 ∷ 255 ∷ 255 ∷ 0 ∷ 0 ∷ []
+fieldsAfter Confirmation before = confirmationNumber ∷ 0 ∷ 0 ∷ 0 ∷ noSap ∷ noSap ∷ 0 ∷ 0 ∷ []
+fieldsAfter (Token da sa) before = tokenNumber ∷ da ∷ sa ∷ 0 ∷ noSap ∷ noSap ∷ 0 ∷ 0 ∷ []
 fieldsAfter (Telegram f h start len) before = telegramFields (formatNumber f) h start len
 fieldsAfter (Refused r) before = before
 
