@@ -1,5 +1,5 @@
-// The answer to parameters: their fields, the watchdog time in milliseconds, and where the user bytes
-// stand. The answer to the fields of parameters.
+// The answer to parameters: their fields, the watchdog time in milliseconds, whether it has expired after a
+// second, and where the user bytes stand. The answer to the fields of parameters.
 use crate::answer::malformed;
 use crate::outcome::again;
 use crate::outcome::behind;
@@ -50,6 +50,8 @@ pub(crate) fn parameters_line(bytes: &[u8], mode: Mode, out: &mut [u8]) {
             parameter_words(fields);
             let watchdog = parameters::watchdog(fields);
             field(watchdog.0 as usize);
+            let expired = parameters::expired(watchdog, parameters::Milliseconds(1000));
+            byte_field(octets::bit_of(expired));
             place(start, len);
             let written = parameters_writer::write(fields, octets::part(bytes, start, len), out);
             again(written, out);

@@ -56,6 +56,12 @@ impl Parameters<'_> {
         Milliseconds(u32::from(self.factor1) * u32::from(self.factor2) * step)
     }
 
+    /// Whether the watchdog has expired: the time since the last call has
+    /// reached the watchdog time.
+    pub fn has_expired(&self, elapsed: Milliseconds) -> bool {
+        elapsed.0 >= self.watchdog().0
+    }
+
     /// Refuses a wrong length, then a wrong byte; which one it is does not
     /// change the number.
     fn judge(&self) -> Result<(), u8> {
@@ -171,6 +177,21 @@ mod tests {
             let watchdog = |mode| read(&bytes, mode).map(|parameters| parameters.watchdog());
             assert_eq!(watchdog(Mode::Dpv0), Ok(Milliseconds(dpv0)));
             assert_eq!(watchdog(Mode::Dpv1), Ok(Milliseconds(dpv1)));
+        }
+    }
+
+    #[test]
+    fn a_watchdog_expires_at_its_time() {
+        let mut bytes = GOOD;
+        bytes[1..3].copy_from_slice(&[20, 5]);
+        bytes[7] = 0x04;
+        for (mode, time) in [(Mode::Dpv0, 1000), (Mode::Dpv1, 100)] {
+            let expired = |elapsed| {
+                read(&bytes, mode).map(|parameters| parameters.has_expired(Milliseconds(elapsed)))
+            };
+            assert_eq!(expired(time - 1), Ok(false));
+            assert_eq!(expired(time), Ok(true));
+            assert_eq!(expired(time + 1), Ok(true));
         }
     }
 

@@ -7,7 +7,7 @@ use super::book::{self, Template};
 use super::configuration::{self, Identifier, Module, Side, Totals};
 use super::control::{self, GlobalControl, SetSlaveAdr};
 use super::diagnosis::{self, Block, Channel, Header};
-use super::parameters::{self, Mode};
+use super::parameters::{self, Milliseconds, Mode};
 use super::LONGEST_DATA;
 use std::fmt::Write;
 
@@ -252,9 +252,10 @@ fn parameters_line(bytes: &[u8], mode: Mode) -> Result<String, u8> {
             format!(" {first} {second} {third}")
         });
     let watchdog = read.watchdog().0;
+    let expired = u8::from(read.has_expired(Milliseconds(1000)));
     let rest = rest_text(bytes, read.user);
     Ok(format!(
-        "0 {flags} {factor1} {factor2} {response} {ident} {groups}{status} {watchdog}{rest}{again}"
+        "0 {flags} {factor1} {factor2} {response} {ident} {groups}{status} {watchdog} {expired}{rest}{again}"
     ))
 }
 
@@ -452,15 +453,15 @@ mod tests {
             [
                 (
                     "B8 14 05 FF 12 34 81 E4 FD 9F AB CD",
-                    "0 184 20 5 255 4660 129 1000 7 5 = b8 14 05 ff 12 34 81 e4 fd 9f ab cd",
+                    "0 184 20 5 255 4660 129 1000 1 7 5 = b8 14 05 ff 12 34 81 e4 fd 9f ab cd",
                 ),
                 (
                     "00 FF FF 0B 00 00 00",
-                    "0 0 255 255 11 0 0 650250 7 0 = 00 ff ff 0b 00 00 00",
+                    "0 0 255 255 11 0 0 650250 0 7 0 = 00 ff ff 0b 00 00 00",
                 ),
                 (
                     "00 02 03 0B 00 01 00 01",
-                    "0 0 2 3 11 1 0 60 7 1 = 00 02 03 0b 00 01 00 01",
+                    "0 0 2 3 11 1 0 60 1 7 1 = 00 02 03 0b 00 01 00 01",
                 ),
                 ("", "20"),
                 ("00 02 03 0B 00 01", "20"),
@@ -472,12 +473,12 @@ mod tests {
             [
                 (
                     "B8 14 05 FF 12 34 81 E4 FD 9F AB CD",
-                    "0 184 20 5 255 4660 129 228 253 159 100 10 2 \
+                    "0 184 20 5 255 4660 129 228 253 159 100 1 10 2 \
                      = b8 14 05 ff 12 34 81 e4 fd 9f ab cd",
                 ),
                 (
                     "00 02 03 0B 00 01 00 00 00 00",
-                    "0 0 2 3 11 1 0 0 0 0 60 10 0 = 00 02 03 0b 00 01 00 00 00 00",
+                    "0 0 2 3 11 1 0 0 0 0 60 1 10 0 = 00 02 03 0b 00 01 00 00 00 00",
                 ),
                 ("00 02 03 0B 00 01 00 00 00", "20"),
                 ("00 02 03 0B 00 01 00 01 00 00", "21"),

@@ -51,7 +51,17 @@ pub fn few_forms(random: &mut Random, mode: Mode) -> Vec<Vec<u8>> {
         .map(|length| of_length(random, mode, length))
         .to_vec();
     forms.extend((0..20).map(|_| any_valid(random, mode)));
+    forms.push(with_watchdog(&forms[0], 10, 10));
+    forms.push(with_watchdog(&forms[0], 11, 10));
     forms
+}
+
+/// The same parameters with other factors; 10 and 10 are a second where a step is 10 ms.
+fn with_watchdog(parameters: &[u8], factor1: u8, factor2: u8) -> Vec<u8> {
+    let mut bytes = parameters.to_vec();
+    bytes[1] = factor1;
+    bytes[2] = factor2;
+    bytes
 }
 
 /// Too few or too many bytes: reading gives 20.
