@@ -108,3 +108,36 @@ module _ (n a b d : ℕ) where
   -- They name no call.
   pub answer-named-no-call : {c : Call} → answerNamed n a b d ≡ case.Call c → ⊥
   answer-named-no-call e = subst AsAnswer e as-answer
+
+-- ---- how many places each case has, in plain numbers
+
+pub record Places : Type 0 where
+  pub poll : callPlaces call.Poll ≡ 1
+  pub read : (slot index l : ℕ) → callPlaces (call.Read slot index l) ≡ 4
+  pub write : (slot index : ℕ) → callPlaces (call.Write slot index) ≡ 3
+  pub alarm-ack : (slot alarm specifier : ℕ) → callPlaces (call.AlarmAck slot alarm specifier) ≡ 4
+  pub idle : callPlaces call.Idle ≡ 1
+  pub transport : (slot index : ℕ) → callPlaces (call.Transport slot index) ≡ 3
+  pub read-answer : (slot index : ℕ) → answerPlaces (answer.Read slot index) ≡ 3
+  pub write-answer : (slot index l : ℕ) → answerPlaces (answer.Write slot index l) ≡ 4
+  pub alarm-ack-answer : (slot alarm specifier : ℕ) → answerPlaces (answer.AlarmAck slot alarm specifier) ≡ 4
+  pub idle-answer : answerPlaces answer.Idle ≡ 1
+  pub transport-answer : (slot index : ℕ) → answerPlaces (answer.Transport slot index) ≡ 3
+  pub negative-answer : (f : Function) (decode code1 code2 : ℕ) → answerPlaces (answer.Negative f decode code1 code2) ≡ 4
+
+pub places-computed : Places
+places-computed =
+    record {
+      poll = refl;
+      read = λ _ _ _. refl;
+      write = λ _ _. refl;
+      alarm-ack = λ _ _ _. refl;
+      idle = refl;
+      transport = λ _ _. refl;
+      read-answer = λ _ _. refl;
+      write-answer = λ _ _ _. refl;
+      alarm-ack-answer = λ _ _ _. refl;
+      idle-answer = refl;
+      transport-answer = λ _ _. refl;
+      negative-answer = λ _ _ _ _. refl;
+    }

@@ -14,7 +14,9 @@ use Rattle.fdl.specs.Telegram.{checksumOf}
 use Rattle.fdl.specs.Reading.{extensionOf, sourceOf, destinationOf, tokenOf, fieldsOf, framedOf, sd2Of, readBy, readOf}
 use Rattle.fdl.specs.Writing.{coreOf, telegramOf, goodHeader, verdictBy, tokenVerdict}
 use Rattle.fdl.specs.Laws.{writes-back, our-one-byte-changed}
+use Rattle.fdl.specs.declared.telegram.Format.the-variants.{Sd1, Sd2, Sd3}
 use Rattle.fields.specs.Kinds.{kindOf}
+use Rattle.fields.specs.declared.kinds.Kind.the-variants as kind
 use Rattle.fields.specs.Outcome.{statusOf, storedBy}
 use Rattle.fields.specs.Lemmas.{fine-stored}
 use Rattle.fields.specs.Laws.{kind-numbered, zero-stored}
@@ -52,6 +54,18 @@ fields-read-back fields user out count e before =
     let k = kindOf (getD fields 0 0) in
     let w = zero-stored (verdictAt k fields user) (bytesAt k fields user) out count (told-fields k fields user) e in
     rw (w .1) (read-as fields user before k (kind-numbered (getD fields 0 0)) (w .0))
+
+-- ---- how many places each kind has, in plain numbers
+
+pub record Places : Type 0 where
+  pub confirmation : placesOf kind.Confirmation ≡ 1
+  pub token : placesOf kind.Token ≡ 3
+  pub sd1 : placesOf (kind.Telegram Sd1) ≡ 6
+  pub sd2 : placesOf (kind.Telegram Sd2) ≡ 6
+  pub sd3 : placesOf (kind.Telegram Sd3) ≡ 6
+
+pub places-computed : Places
+places-computed = record { confirmation = refl; token = refl; sd1 = refl; sd2 = refl; sd3 = refl }
 
 -- ---- each law holds of something
 
