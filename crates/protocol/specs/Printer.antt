@@ -118,6 +118,13 @@ isCall class.Bare = false
 isCall class.Data = false
 isCall class.Reserved = false
 
+-- what was read is a call
+abbrev pub isCallOf : telegram-type.Reading → Bool
+isCallOf telegram-reading.Confirmation = false
+isCallOf (telegram-reading.Token da sa) = false
+isCallOf (telegram-reading.Telegram f h start len) = isCall (classOf (h .fc))
+isCallOf (telegram-reading.Refused r) = false
+
 abbrev pub receivedBy : (address : ℕ) → List ℕ → telegram-type.Reading → Received
 receivedBy address s telegram-reading.Confirmation = nothing
 receivedBy address s (telegram-reading.Token da sa) = nothing

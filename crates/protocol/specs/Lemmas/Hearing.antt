@@ -9,21 +9,14 @@ use lib.Seq.{take-append-seam}
 use borrow.Author.Tests.{eq-eqb}
 use Rattle.octets.specs.Choice.{by-pick}
 use Rattle.octets.specs.Front.{over}
-use Rattle.function_code.specs.Code.{classOf}
 use Rattle.fdl.specs.Reading as telegram
 use Rattle.fdl.specs.declared.reading.Reading as telegram-type
 use Rattle.fdl.specs.declared.reading.Reading.the-variants as telegram-reading
 use Rattle.protocol.specs.Bits.{sameBit}
-use Rattle.protocol.specs.Printer.{Ask, Received, nothing, elsewhere, status, uncounted, opening, counted, isCall, receivedBy, receivedOf, Deed, perform, Station, Heard, isRepeat, replyBytes, newCall, heardBy, hear}
+use Rattle.protocol.specs.Printer.{Ask, Received, nothing, elsewhere, status, uncounted, opening, counted, isCallOf, receivedBy, receivedOf, Deed, perform, Station, Heard, isRepeat, replyBytes, newCall, heardBy, hear}
 use Rattle.protocol.specs.Download.{Given, hears}
 
 -- ---- what is no call
-
-abbrev pub isCallOf : telegram-type.Reading → Bool
-isCallOf telegram-reading.Confirmation = false
-isCallOf (telegram-reading.Token da sa) = false
-isCallOf (telegram-reading.Telegram f h start len) = isCall (classOf (h .fc))
-isCallOf (telegram-reading.Refused r) = false
 
 no-call : (address : ℕ) (s : List ℕ) (r : telegram-type.Reading) → isCallOf r ≡ false → receivedBy address s r ≡ nothing
 no-call address s telegram-reading.Confirmation e = refl

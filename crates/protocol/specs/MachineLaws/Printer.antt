@@ -11,7 +11,7 @@ use Rattle.protocol.specs.Slots.{Slots, slotIn, written, Sized}
 use Rattle.protocol.specs.Lemmas.Slots.{slot-kept}
 use Rattle.protocol.specs.Lemmas.Hearing.{same-bit}
 -- bytes that are no call change nothing and get nothing
-pub use Rattle.protocol.specs.Lemmas.Hearing.{isCallOf, not-a-call}
+pub use Rattle.protocol.specs.Lemmas.Hearing.{not-a-call}
 use Rattle.protocol.specs.Printer.{Ask, slaveDiag, write, poll, unknown, undecodable, Received, nothing, elsewhere, status, uncounted, opening, counted, receivedOf, guarded, judge, slotsAfter, writeDeed, perform, Station, Heard, isRepeat, newCall, heardBy, hear}
 use Rattle.protocol.specs.declared.printer.Outcome.the-variants as outcome
 use Rattle.protocol.specs.declared.printer.Pending.{Pending}
