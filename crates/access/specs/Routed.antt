@@ -19,7 +19,6 @@ use Rattle.access.specs.Table.{look, services, pointsOf}
 use Rattle.access.specs.Route.{namedBy, kindBy, kindOf, isGlobalControl, callRoute, commandRoute, answererOf, answerFrom, answerRoute, wayBy, routeBy, routeOf, headerWith, headerBy, headerOf, serviceRoute}
 use Rattle.access.specs.Laws.{points-named, answerer-routed, header-route, Again, header-again}
 use Rattle.access.specs.Headers.{CallPoints, AnswerPoints, Calls, opening, counted, function-4, function-6, Answers}
-use Rattle.access.specs.declared.table.Points.{Points}
 use Rattle.access.specs.declared.table.Named.the-variants.{Is}
 use Rattle.access.specs.declared.table.Service.{Service}
 use Rattle.access.specs.declared.table.Service.the-variants as service

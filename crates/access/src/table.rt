@@ -1,4 +1,4 @@
-// The list of access points: what a row of it holds, and what a search in it finds.
+// The services with their access points, and the list of them: what a row of it holds, and what a search in it finds.
 use fdl::Sap;
 
 // The services of DP. Data_Exchange alone has no access points.

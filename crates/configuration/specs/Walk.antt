@@ -43,7 +43,7 @@ specialBy x left y z =
 unfoldable pub specialIn : List ℕ → Found
 specialIn r = specialBy (getD r 0 0) (length r) (getD r 1 0) (getD r (1 + getD r 0 0 / outputBit Special % 2) 0)
 
--- the general format is one byte
+-- by the format of the identifier; the general one is one byte
 abbrev pub moduleBy : Identifier → List ℕ → Found
 moduleBy General r = one (generalOf (getD r 0 0)) 1 0
 moduleBy Special r = specialIn r

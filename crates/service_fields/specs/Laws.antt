@@ -42,7 +42,7 @@ use Rattle.access.specs.declared.table.Named.the-variants as listed
 use Rattle.access.specs.declared.route.Kind.{Kind}
 use Rattle.access.specs.declared.route.Route.{Route}
 use Rattle.access.specs.declared.route.Route.the-variants as route
-use Rattle.content.specs.Fields.{serviceOf, Fits}
+use Rattle.content.specs.Fields.{Fits}
 use Rattle.content.specs.declared.fields.Content.{Content}
 use Rattle.content.specs.declared.fields.Content.the-variants as content
 use Rattle.acyclic_fields.specs.Four.{callFour, answerFour, callNamed, answerNamed, callPlaces, answerPlaces}

@@ -1,6 +1,4 @@
-// The values.
-
-// Their codes.
+// The values and their codes.
 pub const BOOLEAN: u8 = 1;
 
 pub const SIGNED_8: u8 = 2;
@@ -17,8 +15,8 @@ pub const UNSIGNED_32: u8 = 7;
 
 pub const FLOATING_POINT: u8 = 8;
 
-// One case for each code in this order; the last two share one. A floating-point value
-// keeps its 32 bits exactly: a NaN's pattern, which no `f32` can be had of, is kept as a number.
+// One case for each code, in their order; the last two share one. A floating-point value keeps its
+// 32 bits exactly: a NaN's pattern, which no `f32` can be had of, is kept as a number.
 pub enum Value {
     Boolean(bool),
     I8(i8),

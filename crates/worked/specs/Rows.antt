@@ -2,7 +2,7 @@
 -- of reading and writing back cannot see, because only the constants of a definition say it. A refusal is told by its number.
 use Prim.Native.Nat.{ℕ}
 use mathlib.Core.Path.{_≡_, refl}
-use mathlib.Core.Bool.{Bool, true, false}
+use mathlib.Core.Bool.{true, false}
 use mathlib.Core.List.{List, [], _∷_}
 use Rattle.octets.specs.declared.Refusal.{Refusal}
 use Rattle.octets.specs.declared.Mode.the-variants.{Dpv1}
@@ -20,7 +20,6 @@ use Rattle.parameters.specs.Reading as parameters
 use Rattle.parameters.specs.Timing.{watchdogOf, expiredOf}
 use Rattle.parameters.specs.declared.fields.Milliseconds.{Milliseconds}
 use Rattle.parameters.specs.declared.fields.Parameters.{Parameters}
-use Rattle.parameters.specs.declared.fields.Extension.{Extension}
 use Rattle.parameters.specs.declared.fields.Extension.the-variants as extension
 use Rattle.parameters.specs.declared.reading.Reading.the-variants as parameters-reading
 use Rattle.acyclic.specs.Answers as answers

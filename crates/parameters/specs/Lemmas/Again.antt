@@ -15,7 +15,7 @@ use Rattle.octets.specs.declared.Mode.{Mode}
 use Rattle.octets.specs.declared.Mode.the-variants as mode
 use Rattle.parameters.specs.Fields.{modeOf, fixedLength, verdictOf}
 use Rattle.parameters.specs.Reading.{extensionIn, fieldsIn, readOf}
-use Rattle.parameters.specs.Writing.{fixedBytes, frontBytes, bytesFor, verdictFor, Again}
+use Rattle.parameters.specs.Writing.{fixedBytes, frontBytes, Again}
 use Rattle.parameters.specs.declared.fields.Extension.{Extension}
 use Rattle.parameters.specs.declared.fields.Parameters.{Parameters}
 use Rattle.parameters.specs.declared.reading.Reading.{Reading}

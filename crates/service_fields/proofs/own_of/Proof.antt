@@ -1,6 +1,6 @@
 -- `service_fields::own_of` meets its contract, content by content.
-use mathlib.Core.Path.{_≡_, refl, sym, ap, _∙_}
-use mathlib.Core.List.{List, [], _∷_, _++_}
+use mathlib.Core.Path.{_≡_, sym, ap, _∙_}
+use mathlib.Core.List.{List, _∷_}
 use Prim.Native.Nat.{ℕ}
 use Rattle.octets.specs.Places.{placesOf}
 use Rattle.service_fields.specs.Service.{ownFields}
