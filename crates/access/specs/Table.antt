@@ -13,37 +13,37 @@ use Rattle.access.specs.declared.table.Named.TheVariants.{Is, Nothing}
 -- ---- the access points of each service
 
 -- the slave's, which is the service's number everywhere; Data_Exchange has no access point, and 0 stands for it
-abbrev pub serviceNumber : Service → ℕ
-serviceNumber service.DataExchange = 0
-serviceNumber service.Dpv1 = 51
-serviceNumber service.ExtUserPrm = 53
-serviceNumber service.SetSlaveAdr = 55
-serviceNumber service.RdInp = 56
-serviceNumber service.RdOutp = 57
-serviceNumber service.GlobalControl = 58
-serviceNumber service.GetCfg = 59
-serviceNumber service.SlaveDiag = 60
-serviceNumber service.SetPrm = 61
-serviceNumber service.ChkCfg = 62
+abbrev pub service_number : Service → ℕ
+service_number service.DataExchange = 0
+service_number service.Dpv1 = 51
+service_number service.ExtUserPrm = 53
+service_number service.SetSlaveAdr = 55
+service_number service.RdInp = 56
+service_number service.RdOutp = 57
+service_number service.GlobalControl = 58
+service_number service.GetCfg = 59
+service_number service.SlaveDiag = 60
+service_number service.SetPrm = 61
+service_number service.ChkCfg = 62
 
 -- the master's
-abbrev pub masterNumber : Service → ℕ
-masterNumber service.DataExchange = 0
-masterNumber service.Dpv1 = 51
-masterNumber service.ExtUserPrm = 62
-masterNumber service.SetSlaveAdr = 62
-masterNumber service.RdInp = 62
-masterNumber service.RdOutp = 62
-masterNumber service.GlobalControl = 62
-masterNumber service.GetCfg = 62
-masterNumber service.SlaveDiag = 62
-masterNumber service.SetPrm = 62
-masterNumber service.ChkCfg = 62
+abbrev pub master_number : Service → ℕ
+master_number service.DataExchange = 0
+master_number service.Dpv1 = 51
+master_number service.ExtUserPrm = 62
+master_number service.SetSlaveAdr = 62
+master_number service.RdInp = 62
+master_number service.RdOutp = 62
+master_number service.GlobalControl = 62
+master_number service.GetCfg = 62
+master_number service.SlaveDiag = 62
+master_number service.SetPrm = 62
+master_number service.ChkCfg = 62
 
 -- ---- the list
 
 abbrev pub row_of : Service → Row
-row_of s = record { slave = serviceNumber s; master = masterNumber s; service = s }
+row_of s = record { slave = service_number s; master = master_number s; service = s }
 
 unfoldable pub services : List Row
 services =
@@ -69,20 +69,20 @@ look slave master (r ∷ rows) =
 unfoldable pub row_at : ℕ → Row
 row_at i = get_or services i (row_of service.DataExchange)
 
--- ---- the access points of a service: those of its row (law `points-named`)
+-- ---- the access points of a service: those of its row (law `points_named`)
 
-abbrev pub pointsIn : Row → Points
-pointsIn r = record { slave = Present r.slave; master = Present r.master }
+abbrev pub points_in : Row → Points
+points_in r = record { slave = Present r.slave; master = Present r.master }
 
 abbrev pub points_of : Service → Points
 points_of service.DataExchange = record { slave = Absent; master = Absent }
-points_of service.Dpv1 = pointsIn (row_of service.Dpv1)
-points_of service.ExtUserPrm = pointsIn (row_of service.ExtUserPrm)
-points_of service.SetSlaveAdr = pointsIn (row_of service.SetSlaveAdr)
-points_of service.RdInp = pointsIn (row_of service.RdInp)
-points_of service.RdOutp = pointsIn (row_of service.RdOutp)
-points_of service.GlobalControl = pointsIn (row_of service.GlobalControl)
-points_of service.GetCfg = pointsIn (row_of service.GetCfg)
-points_of service.SlaveDiag = pointsIn (row_of service.SlaveDiag)
-points_of service.SetPrm = pointsIn (row_of service.SetPrm)
-points_of service.ChkCfg = pointsIn (row_of service.ChkCfg)
+points_of service.Dpv1 = points_in (row_of service.Dpv1)
+points_of service.ExtUserPrm = points_in (row_of service.ExtUserPrm)
+points_of service.SetSlaveAdr = points_in (row_of service.SetSlaveAdr)
+points_of service.RdInp = points_in (row_of service.RdInp)
+points_of service.RdOutp = points_in (row_of service.RdOutp)
+points_of service.GlobalControl = points_in (row_of service.GlobalControl)
+points_of service.GetCfg = points_in (row_of service.GetCfg)
+points_of service.SlaveDiag = points_in (row_of service.SlaveDiag)
+points_of service.SetPrm = points_in (row_of service.SetPrm)
+points_of service.ChkCfg = points_in (row_of service.ChkCfg)

@@ -1,7 +1,7 @@
 // The list of access points (document 01, "Services by access point"): each slave's access point has one
 // service.
 ghost use Rattle.std.specs.Prelude.{◌≡◌, ◌<◌};
-ghost use Rattle.access.specs.Table.{look, services, pointsIn, row_at, points_of};
+ghost use Rattle.access.specs.Table.{look, services, points_in, row_at, points_of};
 
 use access::{
     CHK_CFG, DPV1, EXT_USER_PRM, GET_CFG, GLOBAL_CONTROL, MASTER, Named, Points, RD_INP, RD_OUTP,
@@ -88,7 +88,7 @@ pub fn find(slave: u8, master: u8) -> Named
 
 fn points_at(i: usize) -> Points
     requires { i < 10 }
-    ensures { result ≡ pointsIn (row_at i) }
+    ensures { result ≡ points_in (row_at i) }
 {
     let row = SERVICES[i];
     Points {

@@ -3,14 +3,14 @@ use Rattle.std.specs.Prelude.{◌≡◌, refl, true, List, [], ◌∷◌, ◌↔
 use Rattle.std.proofs.Common.{subst}
 use Rattle.octets.specs.Choice.{never}
 use Rattle.octets.specs.Part.{part_of}
-use Rattle.acyclic.specs.Numbers.{failedBy}
-use Rattle.acyclic.specs.Errors.{named_in, goodCode1}
-use Rattle.acyclic.specs.Forms.{aloneOf, countedOf, countedAsOf, negativeOf, byNumber, whereAllowed}
+use Rattle.acyclic.specs.Numbers.{failed_by}
+use Rattle.acyclic.specs.Errors.{named_in, good_code1}
+use Rattle.acyclic.specs.Forms.{alone_of, counted_of, counted_as_of, negative_of, by_number, where_allowed}
 use Rattle.acyclic.specs.Calls as calls
 use Rattle.acyclic.specs.Answers as answers
-use Rattle.acyclic.specs.Bytes.{callAccepted, answerAccepted, CallBytes, AnswerBytes}
-use Rattle.acyclic.specs.Lemmas.Bytes.{call-bytes, answer-bytes, call-read, answer-read}
-use Rattle.acyclic.specs.Laws.{call-writes-back, answer-writes-back}
+use Rattle.acyclic.specs.Bytes.{call_accepted, answer_accepted, CallBytes, AnswerBytes}
+use Rattle.acyclic.specs.Lemmas.Bytes.{call_bytes, answer_bytes, call_read, answer_read}
+use Rattle.acyclic.specs.Laws.{call_writes_back, answer_writes_back}
 use Rattle.acyclic.specs.declared.calls.CallReading.{CallReading}
 use Rattle.acyclic.specs.declared.calls.CallReading.TheVariants as call-reading
 use Rattle.acyclic.specs.declared.answers.AnswerReading.{AnswerReading}
@@ -18,32 +18,32 @@ use Rattle.acyclic.specs.declared.answers.AnswerReading.TheVariants as answer-re
 
 module _ (s : List ℕ) where
   -- what is read may be written, from fields that the bytes have
-  by_call : (r : CallReading) → calls.readCallOf s ≡ r → callAccepted r ≡ true → CallBytes s
+  by_call : (r : CallReading) → calls.read_call_of s ≡ r → call_accepted r ≡ true → CallBytes s
   by_call (call-reading.Call c start len) e a =
-      let w = call-writes-back s e in
-      subst CallBytes w.1 (call-bytes c (part_of s start len) w.0)
+      let w = call_writes_back s e in
+      subst CallBytes w.1 (call_bytes c (part_of s start len) w.0)
   by_call (call-reading.Refused r) e a = absurd (never a)
 
-  by_answer : (r : AnswerReading) → answers.readAnswerOf s ≡ r → answerAccepted r ≡ true → AnswerBytes s
+  by_answer : (r : AnswerReading) → answers.read_answer_of s ≡ r → answer_accepted r ≡ true → AnswerBytes s
   by_answer (answer-reading.Answer x start len) e a =
-      let w = answer-writes-back s e in
-      subst AnswerBytes w.1 (answer-bytes x (part_of s start len) w.0)
+      let w = answer_writes_back s e in
+      subst AnswerBytes w.1 (answer_bytes x (part_of s start len) w.0)
   by_answer (answer-reading.Refused r) e a = absurd (never a)
 
   -- A call is accepted exactly when it is empty, or its number, its length and its length byte are as the number asks.
-  pub call-accepted : callAccepted (calls.readCallOf s) ≡ true ↔ CallBytes s
-  call-accepted = (by_call (calls.readCallOf s) refl, call-read s)
+  pub call_accepted_lem : call_accepted (calls.read_call_of s) ≡ true ↔ CallBytes s
+  call_accepted_lem = (by_call (calls.read_call_of s) refl, call_read s)
 
   -- An answer is accepted exactly when its number, its length, its length byte and its errors are as the number asks.
-  pub answer-accepted : answerAccepted (answers.readAnswerOf s) ≡ true ↔ AnswerBytes s
-  answer-accepted = (by_answer (answers.readAnswerOf s) refl, answer-read s)
+  pub answer_accepted_lem : answer_accepted (answers.read_answer_of s) ≡ true ↔ AnswerBytes s
+  answer_accepted_lem = (by_answer (answers.read_answer_of s) refl, answer_read s)
 
 -- Idle, and a write of two bytes to slot 1, index 7.
-pub calls-computed : (callAccepted (calls.readCallOf (72 ∷ [])) ≡ true) × (callAccepted (calls.readCallOf (95 ∷ 1 ∷ 7 ∷ 2 ∷ 65 ∷ 66 ∷ [])) ≡ true)
-unfolding calls.readCallOf calls.fourOf aloneOf countedOf countedAsOf byNumber whereAllowed
-calls-computed = (refl, refl)
+pub calls_computed : (call_accepted (calls.read_call_of (72 ∷ [])) ≡ true) × (call_accepted (calls.read_call_of (95 ∷ 1 ∷ 7 ∷ 2 ∷ 65 ∷ 66 ∷ [])) ≡ true)
+unfolding calls.read_call_of calls.four_of alone_of counted_of counted_as_of by_number where_allowed
+calls_computed = (refl, refl)
 
 -- Idle, and a write refused with B6.
-pub answers-computed : (answerAccepted (answers.readAnswerOf (72 ∷ [])) ≡ true) × (answerAccepted (answers.readAnswerOf (223 ∷ 128 ∷ 182 ∷ 0 ∷ [])) ≡ true)
-unfolding answers.readAnswerOf answers.fourOf failedBy aloneOf negativeOf goodCode1 named_in byNumber whereAllowed
-answers-computed = (refl, refl)
+pub answers_computed : (answer_accepted (answers.read_answer_of (72 ∷ [])) ≡ true) × (answer_accepted (answers.read_answer_of (223 ∷ 128 ∷ 182 ∷ 0 ∷ [])) ≡ true)
+unfolding answers.read_answer_of answers.four_of failed_by alone_of negative_of good_code1 named_in by_number where_allowed
+answers_computed = (refl, refl)

@@ -8,59 +8,59 @@ use Rattle.acyclic.specs.declared.answers.AnswerReading.TheVariants as answer-re
 
 -- ---- readings that are not refused
 
-abbrev pub callAccepted : CallReading → Bool
-callAccepted (call-reading.Call c start len) = true
-callAccepted (call-reading.Refused r) = false
+abbrev pub call_accepted : CallReading → Bool
+call_accepted (call-reading.Call c start len) = true
+call_accepted (call-reading.Refused r) = false
 
-abbrev pub answerAccepted : AnswerReading → Bool
-answerAccepted (answer-reading.Answer x start len) = true
-answerAccepted (answer-reading.Refused r) = false
+abbrev pub answer_accepted : AnswerReading → Bool
+answer_accepted (answer-reading.Answer x start len) = true
+answer_accepted (answer-reading.Refused r) = false
 
 -- ---- calls
 
 pub data CallBytes (s : List ℕ) : Type 0 where
   poll : length s ≡ 0 → CallBytes s
   -- 5E: four bytes, a length of 0..240
-  read-call : get_or s 0 0 ≡ 94 → length s ≡ 4 → get_or s 3 0 ≤ 240 → CallBytes s
+  read_call : get_or s 0 0 ≡ 94 → length s ≡ 4 → get_or s 3 0 ≤ 240 → CallBytes s
   -- 5F: as many data as the length byte says, 1..240
-  write-call : get_or s 0 0 ≡ 95 → length s ≡ 4 + get_or s 3 0 → 1 ≤ get_or s 3 0 → get_or s 3 0 ≤ 240 → CallBytes s
+  write_call : get_or s 0 0 ≡ 95 → length s ≡ 4 + get_or s 3 0 → 1 ≤ get_or s 3 0 → get_or s 3 0 ≤ 240 → CallBytes s
   -- 5C
-  alarm-ack-call : get_or s 0 0 ≡ 92 → length s ≡ 4 → CallBytes s
+  alarm_ack_call : get_or s 0 0 ≡ 92 → length s ≡ 4 → CallBytes s
   -- 48
-  idle-call : get_or s 0 0 ≡ 72 → length s ≡ 1 → CallBytes s
+  idle_call : get_or s 0 0 ≡ 72 → length s ≡ 1 → CallBytes s
   -- 51: as many data as the length byte says, 0..240
-  transport-call : get_or s 0 0 ≡ 81 → length s ≡ 4 + get_or s 3 0 → get_or s 3 0 ≤ 240 → CallBytes s
+  transport_call : get_or s 0 0 ≡ 81 → length s ≡ 4 + get_or s 3 0 → get_or s 3 0 ≤ 240 → CallBytes s
 
 -- ---- answers
 
 -- the number of a negative answer: that of read, write, alarm ack or transport, plus 80 hex
 pub data FailedNumber (n : ℕ) : Type 0 where
-  read-failed : n ≡ 222 → FailedNumber n
-  write-failed : n ≡ 223 → FailedNumber n
-  alarm-ack-failed : n ≡ 220 → FailedNumber n
-  transport-failed : n ≡ 209 → FailedNumber n
+  read_failed : n ≡ 222 → FailedNumber n
+  write_failed : n ≡ 223 → FailedNumber n
+  alarm_ack_failed : n ≡ 220 → FailedNumber n
+  transport_failed : n ≡ 209 → FailedNumber n
 
 -- decode and code 1: under 128, class and code are the high and the low four bits of code 1
 pub data ErrorBytes (decode code1 : ℕ) : Type 0 where
-  class-10-low : decode ≡ 128 → code1 / 16 ≡ 10 → code1 % 16 ≤ 2 → ErrorBytes decode code1
-  class-10-high : decode ≡ 128 → code1 / 16 ≡ 10 → 8 ≤ code1 % 16 → ErrorBytes decode code1
-  class-11 : decode ≡ 128 → code1 / 16 ≡ 11 → ErrorBytes decode code1
-  class-12-low : decode ≡ 128 → code1 / 16 ≡ 12 → code1 % 16 ≤ 3 → ErrorBytes decode code1
-  class-12-high : decode ≡ 128 → code1 / 16 ≡ 12 → 8 ≤ code1 % 16 → ErrorBytes decode code1
-  class-13-on : decode ≡ 128 → 13 ≤ code1 / 16 → ErrorBytes decode code1
-  decode-254 : decode ≡ 254 → ErrorBytes decode code1
-  decode-255 : decode ≡ 255 → ErrorBytes decode code1
+  class_10_low : decode ≡ 128 → code1 / 16 ≡ 10 → code1 % 16 ≤ 2 → ErrorBytes decode code1
+  class_10_high : decode ≡ 128 → code1 / 16 ≡ 10 → 8 ≤ code1 % 16 → ErrorBytes decode code1
+  class_11 : decode ≡ 128 → code1 / 16 ≡ 11 → ErrorBytes decode code1
+  class_12_low : decode ≡ 128 → code1 / 16 ≡ 12 → code1 % 16 ≤ 3 → ErrorBytes decode code1
+  class_12_high : decode ≡ 128 → code1 / 16 ≡ 12 → 8 ≤ code1 % 16 → ErrorBytes decode code1
+  class_13_on : decode ≡ 128 → 13 ≤ code1 / 16 → ErrorBytes decode code1
+  decode_254 : decode ≡ 254 → ErrorBytes decode code1
+  decode_255 : decode ≡ 255 → ErrorBytes decode code1
 
 pub data AnswerBytes (s : List ℕ) : Type 0 where
   -- 5E: as many data as the length byte says, 0..240
   read_answer : get_or s 0 0 ≡ 94 → length s ≡ 4 + get_or s 3 0 → get_or s 3 0 ≤ 240 → AnswerBytes s
   -- 5F: four bytes, a length of 0..240
-  write-answer : get_or s 0 0 ≡ 95 → length s ≡ 4 → get_or s 3 0 ≤ 240 → AnswerBytes s
+  write_answer : get_or s 0 0 ≡ 95 → length s ≡ 4 → get_or s 3 0 ≤ 240 → AnswerBytes s
   -- 5C
-  alarm-ack-answer : get_or s 0 0 ≡ 92 → length s ≡ 4 → AnswerBytes s
+  alarm_ack_answer : get_or s 0 0 ≡ 92 → length s ≡ 4 → AnswerBytes s
   -- 48
-  idle-answer : get_or s 0 0 ≡ 72 → length s ≡ 1 → AnswerBytes s
+  idle_answer : get_or s 0 0 ≡ 72 → length s ≡ 1 → AnswerBytes s
   -- 51
-  transport-answer : get_or s 0 0 ≡ 81 → length s ≡ 4 + get_or s 3 0 → get_or s 3 0 ≤ 240 → AnswerBytes s
+  transport_answer : get_or s 0 0 ≡ 81 → length s ≡ 4 + get_or s 3 0 → get_or s 3 0 ≤ 240 → AnswerBytes s
   -- DE, DF, DC and D1: decode, code 1, and code 2, which is free
-  negative-answer : FailedNumber (get_or s 0 0) → length s ≡ 4 → ErrorBytes (get_or s 1 0) (get_or s 2 0) → AnswerBytes s
+  negative_answer : FailedNumber (get_or s 0 0) → length s ≡ 4 → ErrorBytes (get_or s 1 0) (get_or s 2 0) → AnswerBytes s

@@ -3,8 +3,8 @@ use Rattle.std.specs.Prelude.{ℕ, List, [], ◌∷◌, ◌++◌, length, eqb}
 use Rattle.octets.specs.Choice.{pick}
 use Rattle.octets.specs.Front.{Verdict}
 use Rattle.octets.specs.Fixed.{judged}
-use Rattle.acyclic.specs.Numbers.{readNumber, writeNumber, alarmAckNumber, transportNumber, callNumber, allowedInCalls}
-use Rattle.acyclic.specs.Forms.{aloneOf, rangedOf, countedOf, countedAsOf, byNumber, whereAllowed}
+use Rattle.acyclic.specs.Numbers.{read_number, write_number, alarm_ack_number, transport_number, call_number, allowed_in_calls}
+use Rattle.acyclic.specs.Forms.{alone_of, ranged_of, counted_of, counted_as_of, by_number, where_allowed}
 use Rattle.acyclic.specs.declared.calls.Call.{Call}
 use Rattle.acyclic.specs.declared.calls.Call.TheVariants as call
 use Rattle.acyclic.specs.declared.calls.CallReading.{CallReading}
@@ -21,19 +21,19 @@ call_at start count v c = judged refused v (reading.Call c start count)
 
 -- how each number is read whose call has four fixed bytes: n, a, b and l, and count bytes behind them; one that none has is
 -- reserved
-unfoldable pub fourOf : (n a b l count : ℕ) → CallReading
-fourOf n a b l count =
-    pick (eqb n readNumber) (call_at 4 count (rangedOf l count) (call.Read a b l))
-    (pick (eqb n writeNumber) (call_at 4 count (countedAsOf l 1 count) (call.Write a b))
-    (pick (eqb n alarmAckNumber) (call_at 4 count (aloneOf count) (call.AlarmAck a b l))
-    (pick (eqb n transportNumber) (call_at 4 count (countedAsOf l 0 count) (call.Transport a b)) (refused 28))))
+unfoldable pub four_of : (n a b l count : ℕ) → CallReading
+four_of n a b l count =
+    pick (eqb n read_number) (call_at 4 count (ranged_of l count) (call.Read a b l))
+    (pick (eqb n write_number) (call_at 4 count (counted_as_of l 1 count) (call.Write a b))
+    (pick (eqb n alarm_ack_number) (call_at 4 count (alone_of count) (call.AlarmAck a b l))
+    (pick (eqb n transport_number) (call_at 4 count (counted_as_of l 0 count) (call.Transport a b)) (refused 28))))
 
-abbrev pub idleOf : (count : ℕ) → CallReading
-idleOf count = call_at 1 count (aloneOf count) call.Idle
+abbrev pub idle_of : (count : ℕ) → CallReading
+idle_of count = call_at 1 count (alone_of count) call.Idle
 
 -- an empty call is a poll
-unfoldable pub readCallOf : List ℕ → CallReading
-readCallOf s = whereAllowed refused (reading.Call call.Poll 0 0) allowedInCalls (byNumber refused idleOf fourOf s) s
+unfoldable pub read_call_of : List ℕ → CallReading
+read_call_of s = where_allowed refused (reading.Call call.Poll 0 0) allowed_in_calls (by_number refused idle_of four_of s) s
 
 -- ---- writing
 
@@ -46,20 +46,20 @@ fields_of (call.AlarmAck slot alarm specifier) count = slot ∷ alarm ∷ specif
 fields_of call.Idle count = []
 fields_of (call.Transport slot index) count = slot ∷ index ∷ count ∷ []
 
-abbrev pub fixedBytes : Call → (count : ℕ) → List ℕ
-fixedBytes c count = callNumber c ++ fields_of c count
+abbrev pub fixed_bytes : Call → (count : ℕ) → List ℕ
+fixed_bytes c count = call_number c ++ fields_of c count
 
-abbrev pub bytesFor : Call → (part : List ℕ) → List ℕ
-bytesFor c part = fixedBytes c (length part) ++ part
+abbrev pub bytes_for : Call → (part : List ℕ) → List ℕ
+bytes_for c part = fixed_bytes c (length part) ++ part
 
 -- each call has the form that reading asks of its number, with no length byte to agree: it is made from the part
-abbrev pub verdictOf : Call → (count : ℕ) → Verdict
-verdictOf call.Poll count = aloneOf count
-verdictOf (call.Read slot index len) count = rangedOf len count
-verdictOf (call.Write slot index) count = countedOf 1 count
-verdictOf (call.AlarmAck slot alarm specifier) count = aloneOf count
-verdictOf call.Idle count = aloneOf count
-verdictOf (call.Transport slot index) count = countedOf 0 count
+abbrev pub verdict_of : Call → (count : ℕ) → Verdict
+verdict_of call.Poll count = alone_of count
+verdict_of (call.Read slot index len) count = ranged_of len count
+verdict_of (call.Write slot index) count = counted_of 1 count
+verdict_of (call.AlarmAck slot alarm specifier) count = alone_of count
+verdict_of call.Idle count = alone_of count
+verdict_of (call.Transport slot index) count = counted_of 0 count
 
-abbrev pub verdictFor : Call → (part : List ℕ) → Verdict
-verdictFor c part = verdictOf c (length part)
+abbrev pub verdict_for : Call → (part : List ℕ) → Verdict
+verdict_for c part = verdict_of c (length part)

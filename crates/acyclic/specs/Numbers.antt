@@ -12,71 +12,71 @@ use Rattle.acyclic.specs.declared.answers.Answer.{Answer}
 use Rattle.acyclic.specs.declared.answers.Answer.TheVariants as answer
 
 -- 5E
-abbrev pub readNumber : ℕ
-readNumber = 94
+abbrev pub read_number : ℕ
+read_number = 94
 
 -- 5F
-abbrev pub writeNumber : ℕ
-writeNumber = 95
+abbrev pub write_number : ℕ
+write_number = 95
 
 -- 5C
-abbrev pub alarmAckNumber : ℕ
-alarmAckNumber = 92
+abbrev pub alarm_ack_number : ℕ
+alarm_ack_number = 92
 
 -- 48
-abbrev pub idleNumber : ℕ
-idleNumber = 72
+abbrev pub idle_number : ℕ
+idle_number = 72
 
 -- 51
-abbrev pub transportNumber : ℕ
-transportNumber = 81
+abbrev pub transport_number : ℕ
+transport_number = 81
 
-abbrev pub functionNumber : Function → ℕ
-functionNumber function.Read = readNumber
-functionNumber function.Write = writeNumber
-functionNumber function.AlarmAck = alarmAckNumber
-functionNumber function.Transport = transportNumber
+abbrev pub function_number : Function → ℕ
+function_number function.Read = read_number
+function_number function.Write = write_number
+function_number function.AlarmAck = alarm_ack_number
+function_number function.Transport = transport_number
 
 -- a negative answer has its function's number plus 80 hex
-abbrev pub negativeNumber : Function → ℕ
-negativeNumber f = 128 + functionNumber f
+abbrev pub negative_number : Function → ℕ
+negative_number f = 128 + function_number f
 
 -- the function whose negative answer has this number
-unfoldable pub failedBy : ℕ → Failed
-failedBy n =
-    pick (eqb n (negativeNumber function.Read)) (failed.Is function.Read)
-    (pick (eqb n (negativeNumber function.Write)) (failed.Is function.Write)
-    (pick (eqb n (negativeNumber function.AlarmAck)) (failed.Is function.AlarmAck)
-    (pick (eqb n (negativeNumber function.Transport)) (failed.Is function.Transport) failed.Nothing)))
+unfoldable pub failed_by : ℕ → Failed
+failed_by n =
+    pick (eqb n (negative_number function.Read)) (failed.Is function.Read)
+    (pick (eqb n (negative_number function.Write)) (failed.Is function.Write)
+    (pick (eqb n (negative_number function.AlarmAck)) (failed.Is function.AlarmAck)
+    (pick (eqb n (negative_number function.Transport)) (failed.Is function.Transport) failed.Nothing)))
 
 -- ---- each case
 
 -- a poll is empty, and has none
-abbrev pub callNumber : Call → List ℕ
-callNumber call.Poll = []
-callNumber (call.Read slot index len) = readNumber ∷ []
-callNumber (call.Write slot index) = writeNumber ∷ []
-callNumber (call.AlarmAck slot alarm specifier) = alarmAckNumber ∷ []
-callNumber call.Idle = idleNumber ∷ []
-callNumber (call.Transport slot index) = transportNumber ∷ []
+abbrev pub call_number : Call → List ℕ
+call_number call.Poll = []
+call_number (call.Read slot index len) = read_number ∷ []
+call_number (call.Write slot index) = write_number ∷ []
+call_number (call.AlarmAck slot alarm specifier) = alarm_ack_number ∷ []
+call_number call.Idle = idle_number ∷ []
+call_number (call.Transport slot index) = transport_number ∷ []
 
-abbrev pub answerNumber : Answer → ℕ
-answerNumber (answer.Read slot index) = readNumber
-answerNumber (answer.Write slot index len) = writeNumber
-answerNumber (answer.AlarmAck slot alarm specifier) = alarmAckNumber
-answerNumber answer.Idle = idleNumber
-answerNumber (answer.Transport slot index) = transportNumber
-answerNumber (answer.Negative f decode code1 code2) = negativeNumber f
+abbrev pub answer_number : Answer → ℕ
+answer_number (answer.Read slot index) = read_number
+answer_number (answer.Write slot index len) = write_number
+answer_number (answer.AlarmAck slot alarm specifier) = alarm_ack_number
+answer_number answer.Idle = idle_number
+answer_number (answer.Transport slot index) = transport_number
+answer_number (answer.Negative f decode code1 code2) = negative_number f
 
 -- ---- each way
 
-abbrev pub allowedInCalls : ℕ → Bool
-allowedInCalls n =
-    eqb n readNumber or eqb n writeNumber or eqb n alarmAckNumber or eqb n idleNumber or eqb n transportNumber
+abbrev pub allowed_in_calls : ℕ → Bool
+allowed_in_calls n =
+    eqb n read_number or eqb n write_number or eqb n alarm_ack_number or eqb n idle_number or eqb n transport_number
 
-abbrev pub isFailed : Failed → Bool
-isFailed (failed.Is f) = true
-isFailed failed.Nothing = false
+abbrev pub is_failed : Failed → Bool
+is_failed (failed.Is f) = true
+is_failed failed.Nothing = false
 
-abbrev pub allowedInAnswers : ℕ → Bool
-allowedInAnswers n = allowedInCalls n or isFailed (failedBy n)
+abbrev pub allowed_in_answers : ℕ → Bool
+allowed_in_answers n = allowed_in_calls n or is_failed (failed_by n)

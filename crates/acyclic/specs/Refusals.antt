@@ -2,8 +2,8 @@
 use Rattle.std.specs.Prelude.{ℕ, ◌≡◌, refl, true, List}
 use Rattle.octets.specs.Choice.{through, alike}
 use Rattle.octets.specs.Front.{Verdict, fine, fault}
-use Rattle.octets.specs.Refusals.{listed, numbered, judged-numbered}
-use Rattle.acyclic.specs.Forms.{aloneOf, rangedOf, countedOf, countedAsOf, negativeOf, byNumber, whereAllowed}
+use Rattle.octets.specs.Refusals.{listed, numbered, judged_numbered}
+use Rattle.acyclic.specs.Forms.{alone_of, ranged_of, counted_of, counted_as_of, negative_of, by_number, where_allowed}
 use Rattle.acyclic.specs.Calls as calls
 use Rattle.acyclic.specs.Answers as answers
 use Rattle.acyclic.specs.declared.numbers.Failed.{Failed}
@@ -18,67 +18,67 @@ use Rattle.acyclic.specs.declared.answers.AnswerReading.{AnswerReading}
 use Rattle.acyclic.specs.declared.answers.AnswerReading.TheVariants as answer-reading
 
 -- the verdict that a reading came to
-abbrev pub callVerdict : CallReading → Verdict
-callVerdict (call-reading.Call c start len) = fine
-callVerdict (call-reading.Refused r) = fault r.number
+abbrev pub call_verdict : CallReading → Verdict
+call_verdict (call-reading.Call c start len) = fine
+call_verdict (call-reading.Refused r) = fault r.number
 
-abbrev pub answerVerdict : AnswerReading → Verdict
-answerVerdict (answer-reading.Answer x start len) = fine
-answerVerdict (answer-reading.Refused r) = fault r.number
+abbrev pub answer_verdict : AnswerReading → Verdict
+answer_verdict (answer-reading.Answer x start len) = fine
+answer_verdict (answer-reading.Refused r) = fault r.number
 
 -- ---- the forms
 
-alone : (count : ℕ) → numbered (aloneOf count) ≡ true
-unfolding aloneOf listed
+alone : (count : ℕ) → numbered (alone_of count) ≡ true
+unfolding alone_of listed
 alone count = simp (through numbered, alike)
 
-ranged : (len count : ℕ) → numbered (rangedOf len count) ≡ true
-unfolding rangedOf listed
+ranged : (len count : ℕ) → numbered (ranged_of len count) ≡ true
+unfolding ranged_of listed
 ranged len count = simp (through numbered, alike)
 
-counted : (least count : ℕ) → numbered (countedOf least count) ≡ true
-unfolding countedOf listed
+counted : (least count : ℕ) → numbered (counted_of least count) ≡ true
+unfolding counted_of listed
 counted least count = simp (through numbered, alike)
 
-counted-as : (len least count : ℕ) → numbered (countedAsOf len least count) ≡ true
-unfolding countedAsOf listed
-counted-as len least count = simp (through numbered, alike, counted)
+counted_as : (len least count : ℕ) → numbered (counted_as_of len least count) ≡ true
+unfolding counted_as_of listed
+counted_as len least count = simp (through numbered, alike, counted)
 
-negative : (decode code1 count : ℕ) → numbered (negativeOf decode code1 count) ≡ true
-unfolding negativeOf listed
+negative : (decode code1 count : ℕ) → numbered (negative_of decode code1 count) ≡ true
+unfolding negative_of listed
 negative decode code1 count = simp (through numbered, alike)
 
 -- ---- reading
 
-negative-for : (f : Failed) (decode code1 code2 count : ℕ) → numbered (answerVerdict (answers.negativeFor f decode code1 code2 count)) ≡ true
+negative_for_lem : (f : Failed) (decode code1 code2 count : ℕ) → numbered (answer_verdict (answers.negative_for f decode code1 code2 count)) ≡ true
 unfolding listed
-negative-for (failed.Is f) decode code1 code2 count = simp (judged-numbered answerVerdict answers.refused (λ k. refl), alike, negative)
-negative-for failed.Nothing decode code1 code2 count = refl
+negative_for_lem (failed.Is f) decode code1 code2 count = simp (judged_numbered answer_verdict answers.refused (λ k. refl), alike, negative)
+negative_for_lem failed.Nothing decode code1 code2 count = refl
 
-pub call-numbered : (s : List ℕ) → numbered (callVerdict (calls.readCallOf s)) ≡ true
-unfolding calls.readCallOf whereAllowed byNumber calls.fourOf listed
-call-numbered s =
-    simp (through callVerdict, through numbered, alike, judged-numbered callVerdict calls.refused (λ k. refl), alone, ranged, counted-as)
+pub call_numbered : (s : List ℕ) → numbered (call_verdict (calls.read_call_of s)) ≡ true
+unfolding calls.read_call_of where_allowed by_number calls.four_of listed
+call_numbered s =
+    simp (through call_verdict, through numbered, alike, judged_numbered call_verdict calls.refused (λ k. refl), alone, ranged, counted_as)
 
-pub answer-numbered : (s : List ℕ) → numbered (answerVerdict (answers.readAnswerOf s)) ≡ true
-unfolding answers.readAnswerOf whereAllowed byNumber answers.fourOf listed
-answer-numbered s =
-    simp (through answerVerdict, through numbered, alike, judged-numbered answerVerdict answers.refused (λ k. refl), alone, ranged, counted-as, negative-for)
+pub answer_numbered : (s : List ℕ) → numbered (answer_verdict (answers.read_answer_of s)) ≡ true
+unfolding answers.read_answer_of where_allowed by_number answers.four_of listed
+answer_numbered s =
+    simp (through answer_verdict, through numbered, alike, judged_numbered answer_verdict answers.refused (λ k. refl), alone, ranged, counted_as, negative_for_lem)
 
 -- ---- writing
 
-pub call-verdict-numbered : (c : Call) (count : ℕ) → numbered (calls.verdictOf c count) ≡ true
-call-verdict-numbered call.Poll count = alone count
-call-verdict-numbered (call.Read slot index len) count = ranged len count
-call-verdict-numbered (call.Write slot index) count = counted 1 count
-call-verdict-numbered (call.AlarmAck slot alarm specifier) count = alone count
-call-verdict-numbered call.Idle count = alone count
-call-verdict-numbered (call.Transport slot index) count = counted 0 count
+pub call_verdict_numbered : (c : Call) (count : ℕ) → numbered (calls.verdict_of c count) ≡ true
+call_verdict_numbered call.Poll count = alone count
+call_verdict_numbered (call.Read slot index len) count = ranged len count
+call_verdict_numbered (call.Write slot index) count = counted 1 count
+call_verdict_numbered (call.AlarmAck slot alarm specifier) count = alone count
+call_verdict_numbered call.Idle count = alone count
+call_verdict_numbered (call.Transport slot index) count = counted 0 count
 
-pub answer-verdict-numbered : (x : Answer) (count : ℕ) → numbered (answers.verdictOf x count) ≡ true
-answer-verdict-numbered (answer.Read slot index) count = counted 0 count
-answer-verdict-numbered (answer.Write slot index len) count = ranged len count
-answer-verdict-numbered (answer.AlarmAck slot alarm specifier) count = alone count
-answer-verdict-numbered answer.Idle count = alone count
-answer-verdict-numbered (answer.Transport slot index) count = counted 0 count
-answer-verdict-numbered (answer.Negative f decode code1 code2) count = negative decode code1 count
+pub answer_verdict_numbered : (x : Answer) (count : ℕ) → numbered (answers.verdict_of x count) ≡ true
+answer_verdict_numbered (answer.Read slot index) count = counted 0 count
+answer_verdict_numbered (answer.Write slot index len) count = ranged len count
+answer_verdict_numbered (answer.AlarmAck slot alarm specifier) count = alone count
+answer_verdict_numbered answer.Idle count = alone count
+answer_verdict_numbered (answer.Transport slot index) count = counted 0 count
+answer_verdict_numbered (answer.Negative f decode code1 code2) count = negative decode code1 count

@@ -2,7 +2,7 @@
 -- its own use for. A field that the case does not have is 0, and so is the number of a poll, which has no byte.
 use Rattle.std.specs.Prelude.{ℕ, List, [], ◌∷◌, eqb}
 use Rattle.octets.specs.Choice.{pick}
-use Rattle.acyclic.specs.Numbers.{readNumber, writeNumber, alarmAckNumber, idleNumber, transportNumber, negativeNumber, failedBy}
+use Rattle.acyclic.specs.Numbers.{read_number, write_number, alarm_ack_number, idle_number, transport_number, negative_number, failed_by}
 use Rattle.acyclic.specs.declared.numbers.Failed.{Failed}
 use Rattle.acyclic.specs.declared.numbers.Failed.TheVariants as failed
 use Rattle.acyclic.specs.declared.calls.Call.{Call}
@@ -15,70 +15,70 @@ use Rattle.acyclic_fields.specs.declared.four.Case.TheVariants as case
 
 -- ---- the first four fields of a call and of an answer
 
-abbrev pub fourBytes : Four → List ℕ
-fourBytes f = f.0 ∷ f.1 ∷ f.2 ∷ f.3 ∷ []
+abbrev pub four_bytes : Four → List ℕ
+four_bytes f = f.0 ∷ f.1 ∷ f.2 ∷ f.3 ∷ []
 
-abbrev pub callFour : Call → List ℕ
-callFour call.Poll = 0 ∷ 0 ∷ 0 ∷ 0 ∷ []
-callFour (call.Read slot index l) = readNumber ∷ slot ∷ index ∷ l ∷ []
-callFour (call.Write slot index) = writeNumber ∷ slot ∷ index ∷ 0 ∷ []
-callFour (call.AlarmAck slot alarm specifier) = alarmAckNumber ∷ slot ∷ alarm ∷ specifier ∷ []
-callFour call.Idle = idleNumber ∷ 0 ∷ 0 ∷ 0 ∷ []
-callFour (call.Transport slot index) = transportNumber ∷ slot ∷ index ∷ 0 ∷ []
+abbrev pub call_four : Call → List ℕ
+call_four call.Poll = 0 ∷ 0 ∷ 0 ∷ 0 ∷ []
+call_four (call.Read slot index l) = read_number ∷ slot ∷ index ∷ l ∷ []
+call_four (call.Write slot index) = write_number ∷ slot ∷ index ∷ 0 ∷ []
+call_four (call.AlarmAck slot alarm specifier) = alarm_ack_number ∷ slot ∷ alarm ∷ specifier ∷ []
+call_four call.Idle = idle_number ∷ 0 ∷ 0 ∷ 0 ∷ []
+call_four (call.Transport slot index) = transport_number ∷ slot ∷ index ∷ 0 ∷ []
 
 -- a negative answer has its function's number plus 80 hex
-abbrev pub answerFour : Answer → List ℕ
-answerFour (answer.Read slot index) = readNumber ∷ slot ∷ index ∷ 0 ∷ []
-answerFour (answer.Write slot index l) = writeNumber ∷ slot ∷ index ∷ l ∷ []
-answerFour (answer.AlarmAck slot alarm specifier) = alarmAckNumber ∷ slot ∷ alarm ∷ specifier ∷ []
-answerFour answer.Idle = idleNumber ∷ 0 ∷ 0 ∷ 0 ∷ []
-answerFour (answer.Transport slot index) = transportNumber ∷ slot ∷ index ∷ 0 ∷ []
-answerFour (answer.Negative f decode code1 code2) = negativeNumber f ∷ decode ∷ code1 ∷ code2 ∷ []
+abbrev pub answer_four : Answer → List ℕ
+answer_four (answer.Read slot index) = read_number ∷ slot ∷ index ∷ 0 ∷ []
+answer_four (answer.Write slot index l) = write_number ∷ slot ∷ index ∷ l ∷ []
+answer_four (answer.AlarmAck slot alarm specifier) = alarm_ack_number ∷ slot ∷ alarm ∷ specifier ∷ []
+answer_four answer.Idle = idle_number ∷ 0 ∷ 0 ∷ 0 ∷ []
+answer_four (answer.Transport slot index) = transport_number ∷ slot ∷ index ∷ 0 ∷ []
+answer_four (answer.Negative f decode code1 code2) = negative_number f ∷ decode ∷ code1 ∷ code2 ∷ []
 
 -- ---- what such fields name
 
 -- the case that a number names, with the three fields behind it
-unfoldable pub callNamed : (n a b c : ℕ) → Case
-callNamed n a b c =
+unfoldable pub call_named : (n a b c : ℕ) → Case
+call_named n a b c =
     pick (eqb n 0) (case.Call call.Poll)
-    (pick (eqb n readNumber) (case.Call (call.Read a b c))
-    (pick (eqb n writeNumber) (case.Call (call.Write a b))
-    (pick (eqb n alarmAckNumber) (case.Call (call.AlarmAck a b c))
-    (pick (eqb n idleNumber) (case.Call call.Idle) (pick (eqb n transportNumber) (case.Call (call.Transport a b)) case.Unknown)))))
+    (pick (eqb n read_number) (case.Call (call.Read a b c))
+    (pick (eqb n write_number) (case.Call (call.Write a b))
+    (pick (eqb n alarm_ack_number) (case.Call (call.AlarmAck a b c))
+    (pick (eqb n idle_number) (case.Call call.Idle) (pick (eqb n transport_number) (case.Call (call.Transport a b)) case.Unknown)))))
 
 -- a negative answer for the function that its number names
-abbrev pub negativeNamed : Failed → (decode code1 code2 : ℕ) → Case
-negativeNamed (failed.Is f) decode code1 code2 = case.Answer (answer.Negative f decode code1 code2)
-negativeNamed failed.Nothing decode code1 code2 = case.Unknown
+abbrev pub negative_named : Failed → (decode code1 code2 : ℕ) → Case
+negative_named (failed.Is f) decode code1 code2 = case.Answer (answer.Negative f decode code1 code2)
+negative_named failed.Nothing decode code1 code2 = case.Unknown
 
-unfoldable pub answerNamed : (n a b c : ℕ) → Case
-answerNamed n a b c =
-    pick (eqb n readNumber) (case.Answer (answer.Read a b))
-    (pick (eqb n writeNumber) (case.Answer (answer.Write a b c))
-    (pick (eqb n alarmAckNumber) (case.Answer (answer.AlarmAck a b c))
-    (pick (eqb n idleNumber) (case.Answer answer.Idle)
-    (pick (eqb n transportNumber) (case.Answer (answer.Transport a b)) (negativeNamed (failedBy n) a b c)))))
+unfoldable pub answer_named : (n a b c : ℕ) → Case
+answer_named n a b c =
+    pick (eqb n read_number) (case.Answer (answer.Read a b))
+    (pick (eqb n write_number) (case.Answer (answer.Write a b c))
+    (pick (eqb n alarm_ack_number) (case.Answer (answer.AlarmAck a b c))
+    (pick (eqb n idle_number) (case.Answer answer.Idle)
+    (pick (eqb n transport_number) (case.Answer (answer.Transport a b)) (negative_named (failed_by n) a b c)))))
 
 -- ---- how many of the four a case has, from the first on
 
 -- a poll's and idle's number stands alone; where data say the length, the last is free
-abbrev pub callPlaces : Call → ℕ
-callPlaces call.Poll = 1
-callPlaces (call.Read slot index l) = 4
-callPlaces (call.Write slot index) = 3
-callPlaces (call.AlarmAck slot alarm specifier) = 4
-callPlaces call.Idle = 1
-callPlaces (call.Transport slot index) = 3
+abbrev pub call_places : Call → ℕ
+call_places call.Poll = 1
+call_places (call.Read slot index l) = 4
+call_places (call.Write slot index) = 3
+call_places (call.AlarmAck slot alarm specifier) = 4
+call_places call.Idle = 1
+call_places (call.Transport slot index) = 3
 
-abbrev pub answerPlaces : Answer → ℕ
-answerPlaces (answer.Read slot index) = 3
-answerPlaces (answer.Write slot index l) = 4
-answerPlaces (answer.AlarmAck slot alarm specifier) = 4
-answerPlaces answer.Idle = 1
-answerPlaces (answer.Transport slot index) = 3
-answerPlaces (answer.Negative f decode code1 code2) = 4
+abbrev pub answer_places : Answer → ℕ
+answer_places (answer.Read slot index) = 3
+answer_places (answer.Write slot index l) = 4
+answer_places (answer.AlarmAck slot alarm specifier) = 4
+answer_places answer.Idle = 1
+answer_places (answer.Transport slot index) = 3
+answer_places (answer.Negative f decode code1 code2) = 4
 
-abbrev pub placesIn : Case → ℕ
-placesIn (case.Call c) = callPlaces c
-placesIn (case.Answer x) = answerPlaces x
-placesIn case.Unknown = 0
+abbrev pub places_in : Case → ℕ
+places_in (case.Call c) = call_places c
+places_in (case.Answer x) = answer_places x
+places_in case.Unknown = 0

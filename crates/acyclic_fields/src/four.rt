@@ -1,7 +1,7 @@
 // The first four fields of DPV1 calls and answers, and what such fields name.
 ghost use Rattle.std.specs.Prelude.{◌≡◌};
-ghost use Rattle.acyclic.specs.Numbers.{failedBy};
-ghost use Rattle.acyclic_fields.specs.Four.{fourBytes, callFour, answerFour, callNamed, negativeNamed, answerNamed};
+ghost use Rattle.acyclic.specs.Numbers.{failed_by};
+ghost use Rattle.acyclic_fields.specs.Four.{four_bytes, call_four, answer_four, call_named, negative_named, answer_named};
 
 use acyclic::{ALARM_ACK, Answer, Call, Failed, IDLE, READ, TRANSPORT, WRITE};
 use acyclic_forms::{failed_by, negative_number};
@@ -13,7 +13,7 @@ pub struct Four(pub u8, pub u8, pub u8, pub u8);
 // The first four fields of a call. A poll has no byte that its number could stand in: no other call
 // has the number 0.
 pub fn call_four(call: Call) -> Four
-    ensures { fourBytes result ≡ callFour call }
+    ensures { four_bytes result ≡ call_four call }
 {
     match call {
         Call::Poll => Four(0, 0, 0, 0),
@@ -35,7 +35,7 @@ pub fn call_four(call: Call) -> Four
 
 // The first four fields of an answer.
 pub fn answer_four(answer: Answer) -> Four
-    ensures { fourBytes result ≡ answerFour answer }
+    ensures { four_bytes result ≡ answer_four answer }
 {
     match answer {
         Answer::Read { slot, index } => Four(READ, slot, index, 0),
@@ -71,7 +71,7 @@ pub enum Case {
 // What the number and the three fields behind it name in a call. Fields that the call does not have
 // are not looked at.
 pub fn call_named(number: u8, slot: u8, index: u8, last: u8) -> Case
-    ensures { result ≡ callNamed number slot index last }
+    ensures { result ≡ call_named number slot index last }
 {
     match number {
         0 => Case::Call(Call::Poll),
@@ -94,7 +94,7 @@ pub fn call_named(number: u8, slot: u8, index: u8, last: u8) -> Case
 
 // What a number names in an answer that no positive one has.
 fn negative_named(number: u8, decode: u8, code1: u8, code2: u8) -> Case
-    ensures { result ≡ negativeNamed (failedBy number) decode code1 code2 }
+    ensures { result ≡ negative_named (failed_by number) decode code1 code2 }
 {
     let failed = failed_by(number);
     match failed {
@@ -110,7 +110,7 @@ fn negative_named(number: u8, decode: u8, code1: u8, code2: u8) -> Case
 
 // What the number and the three fields behind it name in an answer.
 pub fn answer_named(number: u8, slot: u8, index: u8, last: u8) -> Case
-    ensures { result ≡ answerNamed number slot index last }
+    ensures { result ≡ answer_named number slot index last }
 {
     match number {
         READ => Case::Answer(Answer::Read { slot, index }),

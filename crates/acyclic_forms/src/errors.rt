@@ -1,10 +1,10 @@
 // The error bytes of a negative answer.
 ghost use Rattle.std.specs.Prelude.{◌≡◌};
-ghost use Rattle.acyclic.specs.Errors.{goodDecode, named_in, goodCode1};
+ghost use Rattle.acyclic.specs.Errors.{good_decode, named_in, good_code1};
 
 // Whose errors they are: 128 PROFIBUS DP, 254 PROFIBUS FMS, 255 HART.
 pub(crate) fn good_decode(decode: u8) -> bool
-    ensures { result ≡ goodDecode decode }
+    ensures { result ≡ good_decode decode }
 {
     if decode == 128 {
         return true;
@@ -39,7 +39,7 @@ fn named_in(class: u8, code: u8) -> bool
 
 // Error code 1 has a class and a code under PROFIBUS DP; under the others it is free.
 pub(crate) fn good_code1(decode: u8, code1: u8) -> bool
-    ensures { result ≡ goodCode1 decode code1 }
+    ensures { result ≡ good_code1 decode code1 }
 {
     if decode != 128 {
         return true;

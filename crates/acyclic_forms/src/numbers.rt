@@ -1,6 +1,6 @@
 // Function numbers, the first byte of a call or an answer: which are allowed in which way, and those of negative answers.
 ghost use Rattle.std.specs.Prelude.{◌≡◌};
-ghost use Rattle.acyclic.specs.Numbers.{negativeNumber, failedBy, allowedInCalls, allowedInAnswers};
+ghost use Rattle.acyclic.specs.Numbers.{negative_number, failed_by, allowed_in_calls, allowed_in_answers};
 
 use acyclic::{
     ALARM_ACK, Failed, Function, IDLE, NEGATIVE_ALARM_ACK, NEGATIVE_READ, NEGATIVE_TRANSPORT,
@@ -9,7 +9,7 @@ use acyclic::{
 
 // The number of a function's negative answer: its own plus 80 hex.
 pub fn negative_number(function: Function) -> u8
-    ensures { result ≡ negativeNumber function }
+    ensures { result ≡ negative_number function }
 {
     match function {
         Function::Read => NEGATIVE_READ,
@@ -21,7 +21,7 @@ pub fn negative_number(function: Function) -> u8
 
 // The other way round: the function whose negative answer has this number.
 pub fn failed_by(number: u8) -> Failed
-    ensures { result ≡ failedBy number }
+    ensures { result ≡ failed_by number }
 {
     match number {
         NEGATIVE_READ => Failed::Is(Function::Read),
@@ -33,7 +33,7 @@ pub fn failed_by(number: u8) -> Failed
 }
 
 pub fn allowed_in_calls(number: u8) -> bool
-    ensures { result ≡ allowedInCalls number }
+    ensures { result ≡ allowed_in_calls number }
 {
     match number {
         READ => true,
@@ -47,7 +47,7 @@ pub fn allowed_in_calls(number: u8) -> bool
 
 // The same numbers, and those of negative answers.
 pub fn allowed_in_answers(number: u8) -> bool
-    ensures { result ≡ allowedInAnswers number }
+    ensures { result ≡ allowed_in_answers number }
 {
     if allowed_in_calls(number) {
         return true;

@@ -1,8 +1,8 @@
 // Reading answers.
 ghost use Rattle.std.specs.Prelude.{◌≡◌};
-ghost use Rattle.acyclic.specs.Forms.{verdictIn};
-ghost use Rattle.acyclic.specs.Numbers.{failedBy};
-ghost use Rattle.acyclic.specs.Answers.{answerAt, negativeFor, fourOf, readAnswerOf};
+ghost use Rattle.acyclic.specs.Forms.{verdict_in};
+ghost use Rattle.acyclic.specs.Numbers.{failed_by};
+ghost use Rattle.acyclic.specs.Answers.{answer_at, negative_for, four_of, read_answer_of};
 
 use acyclic::{ALARM_ACK, Answer, AnswerReading, Check, Failed, IDLE, READ, TRANSPORT, WRITE};
 use acyclic_forms::{allowed_in_answers, alone, counted_as, failed_by, negative, ranged};
@@ -10,7 +10,7 @@ use octets::Refusal;
 
 // The answer with count bytes from start, if the check on it let it stand.
 fn answer_at(start: usize, count: usize, check: Check, answer: Answer) -> AnswerReading
-    ensures { result ≡ answerAt start count (verdictIn check) answer }
+    ensures { result ≡ answer_at start count (verdict_in check) answer }
 {
     match check {
         Check::Refused(refusal) => AnswerReading::Refused(refusal),
@@ -25,7 +25,7 @@ fn answer_at(start: usize, count: usize, check: Check, answer: Answer) -> Answer
 // The negative answer that a number has, with count bytes behind it. A number that none has is
 // reserved.
 fn negative_by(number: u8, decode: u8, code1: u8, code2: u8, count: usize) -> AnswerReading
-    ensures { result ≡ negativeFor (failedBy number) decode code1 code2 count }
+    ensures { result ≡ negative_for (failed_by number) decode code1 code2 count }
 {
     let failed = failed_by(number);
     match failed {
@@ -44,7 +44,7 @@ fn negative_by(number: u8, decode: u8, code1: u8, code2: u8, count: usize) -> An
 
 // The answer of four fixed bytes, as its number has them read, with count bytes behind them.
 fn four(number: u8, slot: u8, index: u8, last: u8, count: usize) -> AnswerReading
-    ensures { result ≡ fourOf number slot index last count }
+    ensures { result ≡ four_of number slot index last count }
 {
     match number {
         READ => {
@@ -77,7 +77,7 @@ fn four(number: u8, slot: u8, index: u8, last: u8, count: usize) -> AnswerReadin
 
 // Reads an answer: all of the lent slice is one.
 pub fn read_answer(bytes: &[u8]) -> AnswerReading
-    ensures { result ≡ readAnswerOf bytes.now }
+    ensures { result ≡ read_answer_of bytes.now }
 {
     if bytes.len() == 0 {
         return AnswerReading::Refused(Refusal { number: 20 });

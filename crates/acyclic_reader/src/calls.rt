@@ -1,7 +1,7 @@
 // Reading calls.
 ghost use Rattle.std.specs.Prelude.{◌≡◌};
-ghost use Rattle.acyclic.specs.Forms.{verdictIn};
-ghost use Rattle.acyclic.specs.Calls.{call_at, fourOf, readCallOf};
+ghost use Rattle.acyclic.specs.Forms.{verdict_in};
+ghost use Rattle.acyclic.specs.Calls.{call_at, four_of, read_call_of};
 
 use acyclic::{ALARM_ACK, Call, CallReading, Check, IDLE, READ, TRANSPORT, WRITE};
 use acyclic_forms::{allowed_in_calls, alone, counted_as, ranged};
@@ -9,7 +9,7 @@ use octets::Refusal;
 
 // The call with count bytes from start, if the check on it let it stand.
 fn call_at(start: usize, count: usize, check: Check, call: Call) -> CallReading
-    ensures { result ≡ call_at start count (verdictIn check) call }
+    ensures { result ≡ call_at start count (verdict_in check) call }
 {
     match check {
         Check::Refused(refusal) => CallReading::Refused(refusal),
@@ -24,7 +24,7 @@ fn call_at(start: usize, count: usize, check: Check, call: Call) -> CallReading
 // The call of four fixed bytes, as its number has them read, with count bytes behind them. A number
 // that no such call has is reserved.
 fn four(number: u8, slot: u8, index: u8, last: u8, count: usize) -> CallReading
-    ensures { result ≡ fourOf number slot index last count }
+    ensures { result ≡ four_of number slot index last count }
 {
     match number {
         READ => {
@@ -57,7 +57,7 @@ fn four(number: u8, slot: u8, index: u8, last: u8, count: usize) -> CallReading
 
 // Reads a call: all of the lent slice is one.
 pub fn read_call(bytes: &[u8]) -> CallReading
-    ensures { result ≡ readCallOf bytes.now }
+    ensures { result ≡ read_call_of bytes.now }
 {
     if bytes.len() == 0 {
         return CallReading::Call {

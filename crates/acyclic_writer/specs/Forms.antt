@@ -3,5 +3,5 @@ use Rattle.std.specs.Prelude.{ℕ, List}
 use Rattle.acyclic.specs.Forms.{four}
 use Rattle.acyclic_writer.specs.declared.forms.Front.{Front}
 
-abbrev pub frontBytes : Front → List ℕ
-frontBytes f = four f.0 f.1 f.2 f.3
+abbrev pub front_bytes : Front → List ℕ
+front_bytes f = four f.0 f.1 f.2 f.3

@@ -1,7 +1,7 @@
 // Writing answers.
 ghost use Rattle.std.specs.Prelude.{◌≡◌, length};
-ghost use Rattle.octets.specs.Front.{answerBy, heldBy};
-ghost use Rattle.acyclic.specs.Answers.{verdictFor, bytesFor};
+ghost use Rattle.octets.specs.Front.{answer_by, held_by};
+ghost use Rattle.acyclic.specs.Answers.{verdict_for, bytes_for};
 
 use crate::forms::{Front, write_bare, write_counted, write_four};
 use acyclic::{ALARM_ACK, Answer, IDLE, READ, TRANSPORT, WRITE};
@@ -10,8 +10,8 @@ use octets::Written;
 
 // Writes an answer from its fields and its data.
 pub fn write_answer(answer: Answer, part: &[u8], out: &mut [u8]) -> Written
-    ensures answer { result ≡ answerBy (verdictFor answer part.now) (bytesFor answer part.now) (length out.old) }
-    ensures bytes { out.new ≡ heldBy (verdictFor answer part.now) (bytesFor answer part.now) out.old }
+    ensures answer { result ≡ answer_by (verdict_for answer part.now) (bytes_for answer part.now) (length out.old) }
+    ensures bytes { out.new ≡ held_by (verdict_for answer part.now) (bytes_for answer part.now) out.old }
 {
     match answer {
         Answer::Read { slot, index } => write_counted(READ, slot, index, 0, part, out),

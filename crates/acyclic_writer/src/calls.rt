@@ -1,7 +1,7 @@
 // Writing calls.
 ghost use Rattle.std.specs.Prelude.{◌≡◌, length};
-ghost use Rattle.octets.specs.Front.{answerBy, heldBy};
-ghost use Rattle.acyclic.specs.Calls.{verdictFor, bytesFor};
+ghost use Rattle.octets.specs.Front.{answer_by, held_by};
+ghost use Rattle.acyclic.specs.Calls.{verdict_for, bytes_for};
 
 use crate::forms::{Front, write_bare, write_counted, write_four};
 use acyclic::{ALARM_ACK, Call, IDLE, READ, TRANSPORT, WRITE};
@@ -10,8 +10,8 @@ use octets::Written;
 
 // Writes a call from its fields and its data.
 pub fn write_call(call: Call, part: &[u8], out: &mut [u8]) -> Written
-    ensures answer { result ≡ answerBy (verdictFor call part.now) (bytesFor call part.now) (length out.old) }
-    ensures bytes { out.new ≡ heldBy (verdictFor call part.now) (bytesFor call part.now) out.old }
+    ensures answer { result ≡ answer_by (verdict_for call part.now) (bytes_for call part.now) (length out.old) }
+    ensures bytes { out.new ≡ held_by (verdict_for call part.now) (bytes_for call part.now) out.old }
 {
     match call {
         Call::Poll => {

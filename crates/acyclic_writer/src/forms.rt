@@ -1,8 +1,8 @@
 // What written calls and answers share: the fixed bytes, and the part behind them, as each form has them.
 ghost use Rattle.std.specs.Prelude.{◌≡◌, [], ◌∷◌, ◌++◌, ◌≤◌, length};
-ghost use Rattle.octets.specs.Front.{AtFront, fine, answerBy, heldBy};
-ghost use Rattle.acyclic.specs.Forms.{verdictIn, aloneOf, countedOf, four};
-ghost use Rattle.acyclic_writer.specs.Forms.{frontBytes};
+ghost use Rattle.octets.specs.Front.{AtFront, fine, answer_by, held_by};
+ghost use Rattle.acyclic.specs.Forms.{verdict_in, alone_of, counted_of, four};
+ghost use Rattle.acyclic_writer.specs.Forms.{front_bytes};
 
 use acyclic::Check;
 use acyclic_forms::counted;
@@ -14,7 +14,7 @@ pub(crate) struct Front(pub(crate) u8, pub(crate) u8, pub(crate) u8, pub(crate) 
 
 fn put(front: Front, out: &mut [u8]) -> usize
     requires { 4 ≤ length out.old }
-    ensures { AtFront (frontBytes front) out.old out.new result }
+    ensures { AtFront (front_bytes front) out.old out.new result }
 {
     out[0] = front.0;
     out[1] = front.1;
@@ -25,8 +25,8 @@ fn put(front: Front, out: &mut [u8]) -> usize
 
 // Writes the four bytes and a part that may stand behind them.
 fn store(front: Front, part: &[u8], out: &mut [u8]) -> Written
-    ensures answer { result ≡ answerBy fine (frontBytes front ++ part.now) (length out.old) }
-    ensures bytes { out.new ≡ heldBy fine (frontBytes front ++ part.now) out.old }
+    ensures answer { result ≡ answer_by fine (front_bytes front ++ part.now) (length out.old) }
+    ensures bytes { out.new ≡ held_by fine (front_bytes front ++ part.now) out.old }
 {
     if out.len() < 4 + part.len() {
         return Written::Refused(11);
@@ -37,8 +37,8 @@ fn store(front: Front, part: &[u8], out: &mut [u8]) -> Written
 
 // Writes the four bytes and the part, if the check on them let them stand.
 pub(crate) fn write_four(check: Check, front: Front, part: &[u8], out: &mut [u8]) -> Written
-    ensures answer { result ≡ answerBy (verdictIn check) (frontBytes front ++ part.now) (length out.old) }
-    ensures bytes { out.new ≡ heldBy (verdictIn check) (frontBytes front ++ part.now) out.old }
+    ensures answer { result ≡ answer_by (verdict_in check) (front_bytes front ++ part.now) (length out.old) }
+    ensures bytes { out.new ≡ held_by (verdict_in check) (front_bytes front ++ part.now) out.old }
 {
     match check {
         Check::Refused(refusal) => Written::Refused(refusal.number),
@@ -55,8 +55,8 @@ pub(crate) fn write_counted(
     part: &[u8],
     out: &mut [u8],
 ) -> Written
-    ensures answer { result ≡ answerBy (countedOf least (length part.now)) (four number slot index (length part.now) ++ part.now) (length out.old) }
-    ensures bytes { out.new ≡ heldBy (countedOf least (length part.now)) (four number slot index (length part.now) ++ part.now) out.old }
+    ensures answer { result ≡ answer_by (counted_of least (length part.now)) (four number slot index (length part.now) ++ part.now) (length out.old) }
+    ensures bytes { out.new ≡ held_by (counted_of least (length part.now)) (four number slot index (length part.now) ++ part.now) out.old }
 {
     let check = counted(least, part.len());
     match check {
@@ -71,8 +71,8 @@ pub(crate) fn write_counted(
 
 // Writes a number that stands alone.
 pub(crate) fn write_bare(number: u8, part: &[u8], out: &mut [u8]) -> Written
-    ensures answer { result ≡ answerBy (aloneOf (length part.now)) ((number ∷ []) ++ part.now) (length out.old) }
-    ensures bytes { out.new ≡ heldBy (aloneOf (length part.now)) ((number ∷ []) ++ part.now) out.old }
+    ensures answer { result ≡ answer_by (alone_of (length part.now)) ((number ∷ []) ++ part.now) (length out.old) }
+    ensures bytes { out.new ≡ held_by (alone_of (length part.now)) ((number ∷ []) ++ part.now) out.old }
 {
     if 0 < part.len() {
         return Written::Refused(20);

@@ -4,8 +4,8 @@ use Rattle.std.proofs.Math.Bool.{true}
 use borrow.Author.Tests.{eqb-true, ltb-false, le-ltb, not-false}
 use Rattle.octets.specs.Choice.{never}
 use Rattle.octets.specs.Front.{fine}
-use Rattle.octets.specs.Fixed.{by-verdict, passed}
-use Rattle.address_change.specs.Address.{verdictOf, fieldsIn, read_of}
+use Rattle.octets.specs.Fixed.{by_verdict, passed}
+use Rattle.address_change.specs.Address.{verdict_of, fields_in, read_of}
 use Rattle.address_change.specs.declared.AddressReading.{AddressReading}
 use Rattle.address_change.specs.declared.AddressReading.TheVariants.{Change, Refused}
 
@@ -20,9 +20,9 @@ pub record AddressBytes (s : List ℕ) : Type 0 where
   pub last : get_or s 3 0 ≤ 1
 
 module _ (s : List ℕ) where
-  judged-fine : verdictOf (fieldsIn s) (length s) ≡ fine → AddressBytes s
-  unfolding verdictOf
-  judged-fine v =
+  judged_fine : verdict_of (fields_in s) (length s) ≡ fine → AddressBytes s
+  unfolding verdict_of
+  judged_fine v =
       let p = passed 20 (not (eqb (length s) 4)) _ v in
       let q = passed 21 (ltb 125 (get_or s 0 0)) _ p.1 in
       let r = passed 21 (ltb 1 (get_or s 3 0)) _ q.1 in
@@ -32,19 +32,19 @@ module _ (s : List ℕ) where
         last = ltb-false _ _ r.0;
       }
 
-  fine-judged : AddressBytes s → verdictOf (fieldsIn s) (length s) ≡ fine
-  unfolding verdictOf
-  fine-judged c = simp (c.four, le-ltb _ _ c.address, le-ltb _ _ c.last)
+  fine_judged : AddressBytes s → verdict_of (fields_in s) (length s) ≡ fine
+  unfolding verdict_of
+  fine_judged c = simp (c.four, le-ltb _ _ c.address, le-ltb _ _ c.last)
 
   -- Accepted exactly when it is four bytes, an address 0..125 first and 0 or 1 last.
-  pub address-accepted : accepted (read_of s) ≡ true ↔ AddressBytes s
+  pub address_accepted : accepted (read_of s) ≡ true ↔ AddressBytes s
   unfolding read_of
-  address-accepted = (
-    by-verdict (λ r. accepted r ≡ true → AddressBytes s) (verdictOf (fieldsIn s) (length s)) (λ k a. absurd (never a)) (λ good _. judged-fine good),
-    λ c. simp (fine-judged c),
+  address_accepted = (
+    by_verdict (λ r. accepted r ≡ true → AddressBytes s) (verdict_of (fields_in s) (length s)) (λ k a. absurd (never a)) (λ good _. judged_fine good),
+    λ c. simp (fine_judged c),
   )
 
 -- Address 125, locked, and address 0, not locked, are changes.
-pub changes-computed : (accepted (read_of (125 ∷ 8 ∷ 12 ∷ 1 ∷ [])) ≡ true) × (accepted (read_of (0 ∷ 0 ∷ 0 ∷ 0 ∷ [])) ≡ true)
-unfolding read_of verdictOf
-changes-computed = (refl, refl)
+pub changes_computed : (accepted (read_of (125 ∷ 8 ∷ 12 ∷ 1 ∷ [])) ≡ true) × (accepted (read_of (0 ∷ 0 ∷ 0 ∷ 0 ∷ [])) ≡ true)
+unfolding read_of verdict_of
+changes_computed = (refl, refl)

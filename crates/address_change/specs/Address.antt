@@ -9,29 +9,29 @@ use Rattle.address_change.specs.declared.AddressReading.{AddressReading}
 use Rattle.address_change.specs.declared.AddressReading.TheVariants.{Change, Refused}
 
 -- the verdict on the fields, at so many bytes in all, which reader and writer share: the length, the address, then the last byte
-unfoldable pub verdictOf : AddressChange → (size : ℕ) → Verdict
-verdictOf f size = pick (not (eqb size 4)) (fault 20) (pick (ltb 125 f.address) (fault 21) (pick (ltb 1 f.locked) (fault 21) fine))
+unfoldable pub verdict_of : AddressChange → (size : ℕ) → Verdict
+verdict_of f size = pick (not (eqb size 4)) (fault 20) (pick (ltb 125 f.address) (fault 21) (pick (ltb 1 f.locked) (fault 21) fine))
 
 -- ---- reading
 
 abbrev pub refused : ℕ → AddressReading
 refused k = Refused (record { number = k })
 
-abbrev pub fieldsIn : List ℕ → AddressChange
-fieldsIn s =
+abbrev pub fields_in : List ℕ → AddressChange
+fields_in s =
     record { address = get_or s 0 0; ident = number_of (get_or s 1 0 ∷ get_or s 2 0 ∷ []); locked = get_or s 3 0 }
 
 unfoldable pub read_of : List ℕ → AddressReading
-read_of s = judged refused (verdictOf (fieldsIn s) (length s)) (Change (fieldsIn s) 4 (length s - 4))
+read_of s = judged refused (verdict_of (fields_in s) (length s)) (Change (fields_in s) 4 (length s - 4))
 
 -- ---- writing
 
-abbrev pub fixedBytes : AddressChange → List ℕ
-fixedBytes f = f.address ∷ (bytes_of 2 f.ident ++ (f.locked ∷ []))
+abbrev pub fixed_bytes : AddressChange → List ℕ
+fixed_bytes f = f.address ∷ (bytes_of 2 f.ident ++ (f.locked ∷ []))
 
-abbrev pub bytesFor : AddressChange → (rest : List ℕ) → List ℕ
-bytesFor f rest = fixedBytes f ++ rest
+abbrev pub bytes_for : AddressChange → (rest : List ℕ) → List ℕ
+bytes_for f rest = fixed_bytes f ++ rest
 
 -- the verdict at the length that the bytes will have
-abbrev pub verdictFor : AddressChange → (rest : List ℕ) → Verdict
-verdictFor f rest = verdictOf f (4 + length rest)
+abbrev pub verdict_for : AddressChange → (rest : List ℕ) → Verdict
+verdict_for f rest = verdict_of f (4 + length rest)

@@ -2,21 +2,21 @@
 use Rattle.std.specs.Prelude.{ℕ, ◌≡◌, refl, true, List}
 use Rattle.octets.specs.Choice.{through, alike}
 use Rattle.octets.specs.Front.{Verdict, fine, fault}
-use Rattle.octets.specs.Refusals.{listed, numbered, judged-numbered}
-use Rattle.address_change.specs.Address.{verdictOf, refused, read_of}
+use Rattle.octets.specs.Refusals.{listed, numbered, judged_numbered}
+use Rattle.address_change.specs.Address.{verdict_of, refused, read_of}
 use Rattle.address_change.specs.declared.AddressChange.{AddressChange}
 use Rattle.address_change.specs.declared.AddressReading.{AddressReading}
 use Rattle.address_change.specs.declared.AddressReading.TheVariants.{Change, Refused}
 
 -- the verdict that a reading came to
-abbrev pub verdictIn : AddressReading → Verdict
-verdictIn (Change f start len) = fine
-verdictIn (Refused r) = fault r.number
+abbrev pub verdict_in : AddressReading → Verdict
+verdict_in (Change f start len) = fine
+verdict_in (Refused r) = fault r.number
 
-pub verdict-numbered : (f : AddressChange) (size : ℕ) → numbered (verdictOf f size) ≡ true
-unfolding verdictOf listed
-verdict-numbered f size = simp (through numbered, alike)
+pub verdict_numbered : (f : AddressChange) (size : ℕ) → numbered (verdict_of f size) ≡ true
+unfolding verdict_of listed
+verdict_numbered f size = simp (through numbered, alike)
 
-pub reading-numbered : (s : List ℕ) → numbered (verdictIn (read_of s)) ≡ true
+pub reading_numbered : (s : List ℕ) → numbered (verdict_in (read_of s)) ≡ true
 unfolding read_of listed
-reading-numbered s = simp (judged-numbered verdictIn refused (λ k. refl), verdict-numbered, through verdictIn, through numbered, alike)
+reading_numbered s = simp (judged_numbered verdict_in refused (λ k. refl), verdict_numbered, through verdict_in, through numbered, alike)

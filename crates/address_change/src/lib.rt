@@ -1,7 +1,7 @@
 // Set_Slave_Adr (document 01, "Services by access point"): the change of a slave's address.
 ghost use Rattle.std.specs.Prelude.{◌≡◌, ◌≤◌, length};
-ghost use Rattle.octets.specs.Front.{AtFront, answerBy, heldBy};
-ghost use Rattle.address_change.specs.Address.{read_of, fixedBytes, bytesFor, verdictFor};
+ghost use Rattle.octets.specs.Front.{AtFront, answer_by, held_by};
+ghost use Rattle.address_change.specs.Address.{read_of, fixed_bytes, bytes_for, verdict_for};
 
 use octets::{Refusal, Written};
 
@@ -56,7 +56,7 @@ pub fn read_address_change(bytes: &[u8]) -> AddressReading
 // Stores the four fixed bytes.
 fn put(fields: AddressChange, out: &mut [u8]) -> usize
     requires { 4 ≤ length out.old }
-    ensures { AtFront (fixedBytes fields) out.old out.new result }
+    ensures { AtFront (fixed_bytes fields) out.old out.new result }
 {
     let ident = fields.ident;
     out[0] = fields.address;
@@ -68,8 +68,8 @@ fn put(fields: AddressChange, out: &mut [u8]) -> usize
 
 // Writes an address change from its fields and what follows them.
 pub fn write_address_change(fields: AddressChange, rest: &[u8], out: &mut [u8]) -> Written
-    ensures answer { result ≡ answerBy (verdictFor fields rest.now) (bytesFor fields rest.now) (length out.old) }
-    ensures bytes { out.new ≡ heldBy (verdictFor fields rest.now) (bytesFor fields rest.now) out.old }
+    ensures answer { result ≡ answer_by (verdict_for fields rest.now) (bytes_for fields rest.now) (length out.old) }
+    ensures bytes { out.new ≡ held_by (verdict_for fields rest.now) (bytes_for fields rest.now) out.old }
 {
     let size = 4 + rest.len();
     if size != 4 {

@@ -2,9 +2,9 @@
 use Rattle.std.specs.Prelude.{◌≡◌, List, [], ◌∷◌, ◌++◌, ℕ, suc, ◌+◌, ◌≤◌, length, get_or, take, drop}
 use Rattle.octets.specs.Part.{part_of}
 use Rattle.book.specs.Table.{sum_of}
-use Rattle.book.specs.Reading.{slots_of, lengthsOf, bodiesOf}
-use Rattle.book.specs.Template.{start_of, templateOf}
-use Rattle.book.specs.Writing.{bookBytes}
+use Rattle.book.specs.Reading.{slots_of, lengths_of, bodies_of}
+use Rattle.book.specs.Template.{start_of, template_of}
+use Rattle.book.specs.Writing.{book_bytes}
 use Rattle.book.specs.declared.answers.Template.TheVariants.{Is}
 
 -- a template: its slot and its body
@@ -15,14 +15,14 @@ pub record Entry : Type 0 where
 -- ---- from bytes to templates
 
 -- the bodies one after the other, each as long as its length says
-abbrev pub templatesBy : (slots lengths bodies : List ℕ) → List Entry
-templatesBy [] lengths bodies = []
-templatesBy (x ∷ slots) [] bodies = []
-templatesBy (x ∷ slots) (n ∷ lengths) bodies = record { slot = x; body = take n bodies } ∷ templatesBy slots lengths (drop n bodies)
+abbrev pub templates_by : (slots lengths bodies : List ℕ) → List Entry
+templates_by [] lengths bodies = []
+templates_by (x ∷ slots) [] bodies = []
+templates_by (x ∷ slots) (n ∷ lengths) bodies = record { slot = x; body = take n bodies } ∷ templates_by slots lengths (drop n bodies)
 
 -- the templates of an accepted book
-abbrev pub templatesOf : List ℕ → List Entry
-templatesOf s = templatesBy (slots_of s) (lengthsOf s) (bodiesOf s)
+abbrev pub templates_of : List ℕ → List Entry
+templates_of s = templates_by (slots_of s) (lengths_of s) (bodies_of s)
 
 -- slots from m on, 0 to 15 and strictly rising; bodies of 1 to 200 bytes
 abbrev pub InOrder : (m : ℕ) → List Entry → Type 0
@@ -31,31 +31,31 @@ InOrder m (t ∷ ts) = (m ≤ t.slot) × (t.slot ≤ 15) × (1 ≤ length t.body
 
 -- ---- from templates to bytes
 
-abbrev pub slotsIn : List Entry → List ℕ
-slotsIn [] = []
-slotsIn (t ∷ ts) = t.slot ∷ slotsIn ts
+abbrev pub slots_in : List Entry → List ℕ
+slots_in [] = []
+slots_in (t ∷ ts) = t.slot ∷ slots_in ts
 
-abbrev pub lengthsIn : List Entry → List ℕ
-lengthsIn [] = []
-lengthsIn (t ∷ ts) = length t.body ∷ lengthsIn ts
+abbrev pub lengths_in : List Entry → List ℕ
+lengths_in [] = []
+lengths_in (t ∷ ts) = length t.body ∷ lengths_in ts
 
-abbrev pub bodiesIn : List Entry → List ℕ
-bodiesIn [] = []
-bodiesIn (t ∷ ts) = t.body ++ bodiesIn ts
+abbrev pub bodies_in : List Entry → List ℕ
+bodies_in [] = []
+bodies_in (t ∷ ts) = t.body ++ bodies_in ts
 
 -- the bytes of a book
-abbrev pub bytesFor : List Entry → List ℕ
-bytesFor ts = bookBytes (slotsIn ts) (lengthsIn ts) (bodiesIn ts)
+abbrev pub bytes_for : List Entry → List ℕ
+bytes_for ts = book_bytes (slots_in ts) (lengths_in ts) (bodies_in ts)
 
 -- ---- one template
 
 -- the stretch of the bodies that template i has: behind those before it, as long as its length says
-abbrev pub stretchOf : (lengths bodies : List ℕ) (i : ℕ) → List ℕ
-stretchOf lengths bodies i = take (get_or lengths i 0) (drop (sum_of (take i lengths)) bodies)
+abbrev pub stretch_of : (lengths bodies : List ℕ) (i : ℕ) → List ℕ
+stretch_of lengths bodies i = take (get_or lengths i 0) (drop (sum_of (take i lengths)) bodies)
 
 -- template i, counted from 0, is found with this slot and this body
 pub record Found (s : List ℕ) (i slot len : ℕ) (body : List ℕ) : Type 0 where
-  pub is : templateOf s (suc i) ≡ Is slot (start_of s i) len
+  pub is : template_of s (suc i) ≡ Is slot (start_of s i) len
   pub inside : start_of s i + len ≤ length s
   pub part : part_of s (start_of s i) len ≡ body
   pub long : length body ≡ len

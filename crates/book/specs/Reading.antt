@@ -1,7 +1,7 @@
 -- Reading a book (document 01, "A book").
 use Rattle.std.specs.Prelude.{List, ℕ, ◌+◌, ◌*◌, length, get_or, drop, ltb}
 use Rattle.octets.specs.Choice.{pick}
-use Rattle.book.specs.Table.{everySecond, table_of}
+use Rattle.book.specs.Table.{every_second, table_of}
 use Rattle.book.specs.declared.table.Table.{Table}
 use Rattle.book.specs.declared.table.Table.TheVariants as table
 use Rattle.book.specs.declared.answers.Reading.{Reading}
@@ -18,21 +18,21 @@ counted s = get_or s 0 0
 
 -- the n pairs of slot and length
 abbrev pub slots_of : List ℕ → List ℕ
-slots_of s = everySecond (counted s) 1 s
+slots_of s = every_second (counted s) 1 s
 
-abbrev pub lengthsOf : List ℕ → List ℕ
-lengthsOf s = everySecond (counted s) 2 s
+abbrev pub lengths_of : List ℕ → List ℕ
+lengths_of s = every_second (counted s) 2 s
 
 -- the bodies in that order
-abbrev pub bodiesOf : List ℕ → List ℕ
-bodiesOf s = drop (1 + 2 * counted s) s
+abbrev pub bodies_of : List ℕ → List ℕ
+bodies_of s = drop (1 + 2 * counted s) s
 
 -- ---- the order of refusals
 
 -- 1: bodies cut; 4: bytes after the bodies
-unfoldable pub bodiesBy : (there count : ℕ) → Table → Reading
-bodiesBy there n (table.Total t) = pick (ltb there t) (refused 1) (pick (ltb t there) (refused 4) (Book n))
-bodiesBy there n (table.Refused r) = Refused r
+unfoldable pub bodies_by : (there count : ℕ) → Table → Reading
+bodies_by there n (table.Total t) = pick (ltb there t) (refused 1) (pick (ltb t there) (refused 4) (Book n))
+bodies_by there n (table.Refused r) = Refused r
 
 -- 1: no count; 32: count not 1 to 16; 1: table cut; then the table, then the bodies
 unfoldable pub read_of : List ℕ → Reading
@@ -41,4 +41,4 @@ read_of s =
     (pick (ltb (counted s) 1) (refused 32)
     (pick (ltb 16 (counted s)) (refused 32)
     (pick (ltb (length s) (1 + 2 * counted s)) (refused 1)
-    (bodiesBy (length (bodiesOf s)) (counted s) (table_of 0 0 (slots_of s) (lengthsOf s))))))
+    (bodies_by (length (bodies_of s)) (counted s) (table_of 0 0 (slots_of s) (lengths_of s))))))

@@ -4,9 +4,9 @@ use Rattle.octets.specs.Choice.{through, alike}
 use Rattle.octets.specs.Front.{Verdict, fine, fault}
 use Rattle.octets.specs.Refusals.{listed, numbered}
 use Rattle.book.specs.Table.{pair_of, further, table_of}
-use Rattle.book.specs.Reading.{bodiesBy, read_of}
-use Rattle.book.specs.Template.{entry_at, templateBy, templateOf}
-use Rattle.book.specs.Writing.{bodiesVerdict, verdictOf}
+use Rattle.book.specs.Reading.{bodies_by, read_of}
+use Rattle.book.specs.Template.{entry_at, template_by, template_of}
+use Rattle.book.specs.Writing.{bodies_verdict, verdict_of}
 use Rattle.book.specs.declared.table.Table.{Table}
 use Rattle.book.specs.declared.table.Table.TheVariants as table
 use Rattle.book.specs.declared.answers.Reading.{Reading}
@@ -15,63 +15,63 @@ use Rattle.book.specs.declared.answers.Template.{Template}
 use Rattle.book.specs.declared.answers.Template.TheVariants as template
 
 -- the verdict that a reading came to, a template and the table
-abbrev pub verdictIn : Reading → Verdict
-verdictIn (reading.Book n) = fine
-verdictIn (reading.Refused r) = fault r.number
+abbrev pub verdict_in : Reading → Verdict
+verdict_in (reading.Book n) = fine
+verdict_in (reading.Refused r) = fault r.number
 
-abbrev pub templateVerdict : Template → Verdict
-templateVerdict (template.Is slot start len) = fine
-templateVerdict (template.Refused r) = fault r.number
+abbrev pub template_verdict : Template → Verdict
+template_verdict (template.Is slot start len) = fine
+template_verdict (template.Refused r) = fault r.number
 
-abbrev tableVerdict : Table → Verdict
-tableVerdict (table.Total t) = fine
-tableVerdict (table.Refused r) = fault r.number
+abbrev table_verdict : Table → Verdict
+table_verdict (table.Total t) = fine
+table_verdict (table.Refused r) = fault r.number
 
 -- ---- the table
 
-pair-numbered : (least total x n : ℕ) → numbered (tableVerdict (pair_of least total x n)) ≡ true
+pair_numbered : (least total x n : ℕ) → numbered (table_verdict (pair_of least total x n)) ≡ true
 unfolding pair_of listed
-pair-numbered least total x n = simp (through tableVerdict, through numbered, alike)
+pair_numbered least total x n = simp (through table_verdict, through numbered, alike)
 
-further-numbered : (t : Table) (rest : ℕ → Table) → numbered (tableVerdict t) ≡ true → ((k : ℕ) → numbered (tableVerdict (rest k)) ≡ true)
-    → numbered (tableVerdict (further t rest)) ≡ true
-further-numbered (table.Total k) rest h all = all k
-further-numbered (table.Refused r) rest h all = h
+further_numbered : (t : Table) (rest : ℕ → Table) → numbered (table_verdict t) ≡ true → ((k : ℕ) → numbered (table_verdict (rest k)) ≡ true)
+    → numbered (table_verdict (further t rest)) ≡ true
+further_numbered (table.Total k) rest h all = all k
+further_numbered (table.Refused r) rest h all = h
 
-table-numbered : (slots lengths : List ℕ) (least total : ℕ) → numbered (tableVerdict (table_of least total slots lengths)) ≡ true
+table_numbered : (slots lengths : List ℕ) (least total : ℕ) → numbered (table_verdict (table_of least total slots lengths)) ≡ true
 unfolding table_of
-table-numbered [] lengths least total = refl
-table-numbered (x ∷ slots) [] least total = refl
-table-numbered (x ∷ slots) (n ∷ lengths) least total =
-    further-numbered (pair_of least total x n) _ (pair-numbered least total x n) (table-numbered slots lengths _)
+table_numbered [] lengths least total = refl
+table_numbered (x ∷ slots) [] least total = refl
+table_numbered (x ∷ slots) (n ∷ lengths) least total =
+    further_numbered (pair_of least total x n) _ (pair_numbered least total x n) (table_numbered slots lengths _)
 
 -- ---- reading
 
-bodies-numbered : (there n : ℕ) (t : Table) → numbered (tableVerdict t) ≡ true → numbered (verdictIn (bodiesBy there n t)) ≡ true
-unfolding bodiesBy listed
-bodies-numbered there n (table.Total t) h = simp (through verdictIn, through numbered, alike)
-bodies-numbered there n (table.Refused r) h = h
+bodies_numbered : (there n : ℕ) (t : Table) → numbered (table_verdict t) ≡ true → numbered (verdict_in (bodies_by there n t)) ≡ true
+unfolding bodies_by listed
+bodies_numbered there n (table.Total t) h = simp (through verdict_in, through numbered, alike)
+bodies_numbered there n (table.Refused r) h = h
 
-pub reading-numbered : (s : List ℕ) → numbered (verdictIn (read_of s)) ≡ true
+pub reading_numbered : (s : List ℕ) → numbered (verdict_in (read_of s)) ≡ true
 unfolding read_of listed
-reading-numbered s = simp (through verdictIn, through numbered, alike, bodies-numbered, table-numbered)
+reading_numbered s = simp (through verdict_in, through numbered, alike, bodies_numbered, table_numbered)
 
-template-numbered-by : (s : List ℕ) (k : ℕ) (r : Reading) → numbered (verdictIn r) ≡ true → numbered (templateVerdict (templateBy s k r)) ≡ true
+template_numbered_by : (s : List ℕ) (k : ℕ) (r : Reading) → numbered (verdict_in r) ≡ true → numbered (template_verdict (template_by s k r)) ≡ true
 unfolding entry_at listed
-template-numbered-by s k (reading.Book n) h = simp (through templateVerdict, through numbered, alike)
-template-numbered-by s k (reading.Refused r) h = h
+template_numbered_by s k (reading.Book n) h = simp (through template_verdict, through numbered, alike)
+template_numbered_by s k (reading.Refused r) h = h
 
-pub template-numbered : (s : List ℕ) (k : ℕ) → numbered (templateVerdict (templateOf s k)) ≡ true
-unfolding templateOf
-template-numbered s k = template-numbered-by s k (read_of s) (reading-numbered s)
+pub template_numbered : (s : List ℕ) (k : ℕ) → numbered (template_verdict (template_of s k)) ≡ true
+unfolding template_of
+template_numbered s k = template_numbered_by s k (read_of s) (reading_numbered s)
 
 -- ---- writing
 
-verdict-by : (there : ℕ) (t : Table) → numbered (tableVerdict t) ≡ true → numbered (bodiesVerdict there t) ≡ true
+verdict_by_lem : (there : ℕ) (t : Table) → numbered (table_verdict t) ≡ true → numbered (bodies_verdict there t) ≡ true
 unfolding listed
-verdict-by there (table.Total t) h = simp (through numbered, alike)
-verdict-by there (table.Refused r) h = h
+verdict_by_lem there (table.Total t) h = simp (through numbered, alike)
+verdict_by_lem there (table.Refused r) h = h
 
-pub verdict-numbered : (slots lengths bodies : List ℕ) → numbered (verdictOf slots lengths bodies) ≡ true
-unfolding verdictOf listed
-verdict-numbered slots lengths bodies = simp (through numbered, alike, verdict-by, table-numbered)
+pub verdict_numbered : (slots lengths bodies : List ℕ) → numbered (verdict_of slots lengths bodies) ≡ true
+unfolding verdict_of listed
+verdict_numbered slots lengths bodies = simp (through numbered, alike, verdict_by_lem, table_numbered)

@@ -5,9 +5,9 @@ use Rattle.book.specs.declared.table.Table.{Table}
 use Rattle.book.specs.declared.table.Table.TheVariants.{Total, Refused}
 
 -- k elements of s, every second one from the i-th on
-abbrev pub everySecond : (k i : ℕ) → List ℕ → List ℕ
-everySecond zero i s = []
-everySecond (suc k) i s = get_or s i 0 ∷ everySecond k (suc (suc i)) s
+abbrev pub every_second : (k i : ℕ) → List ℕ → List ℕ
+every_second zero i s = []
+every_second (suc k) i s = get_or s i 0 ∷ every_second k (suc (suc i)) s
 
 -- the sum of lengths
 abbrev pub sum_of : List ℕ → ℕ
@@ -19,12 +19,12 @@ abbrev pub wrong : Table
 wrong = Refused (record { number = 32 })
 
 -- a slot x, `least` to 15, and its length n, 1 to 200
-unfoldable pub goodPair : (least x n : ℕ) → Bool
-goodPair least x n = leb least x and leb x 15 and leb 1 n and leb n 200
+unfoldable pub good_pair : (least x n : ℕ) → Bool
+good_pair least x n = leb least x and leb x 15 and leb 1 n and leb n 200
 
 -- the length of a good pair is added to the total
 unfoldable pub pair_of : (least total x n : ℕ) → Table
-pair_of least total x n = pick (goodPair least x n) (Total (total + n)) wrong
+pair_of least total x n = pick (good_pair least x n) (Total (total + n)) wrong
 
 -- what follows a pair that is not refused
 abbrev pub further : Table → (ℕ → Table) → Table

@@ -2,7 +2,7 @@
 use Rattle.std.specs.Prelude.{List, ℕ, ◌+◌, ◌-◌, ◌*◌, length, get_or, take, ltb}
 use Rattle.octets.specs.Choice.{pick}
 use Rattle.book.specs.Table.{sum_of}
-use Rattle.book.specs.Reading.{counted, slots_of, lengthsOf, read_of}
+use Rattle.book.specs.Reading.{counted, slots_of, lengths_of, read_of}
 use Rattle.book.specs.declared.answers.Reading.{Reading}
 use Rattle.book.specs.declared.answers.Reading.TheVariants as reading
 use Rattle.book.specs.declared.answers.Template.{Template}
@@ -13,11 +13,11 @@ refused k = Refused (record { number = k })
 
 -- where the body of template i begins, counted from 0: behind the table and the bodies before it
 abbrev pub start_of : List ℕ → (i : ℕ) → ℕ
-start_of s i = 1 + 2 * counted s + sum_of (take i (lengthsOf s))
+start_of s i = 1 + 2 * counted s + sum_of (take i (lengths_of s))
 
 -- template i, counted from 0
 unfoldable pub entry_at : List ℕ → (i : ℕ) → Template
-entry_at s i = Is (get_or (slots_of s) i 0) (start_of s i) (get_or (lengthsOf s) i 0)
+entry_at s i = Is (get_or (slots_of s) i 0) (start_of s i) (get_or (lengths_of s) i 0)
 
 -- template k, counted from 1, by the table alone, which must be there with its count; nothing else of the book is looked at
 unfoldable pub listed_of : List ℕ → (k : ℕ) → Template
@@ -28,9 +28,9 @@ listed_of s k =
     (pick (ltb 16 (counted s)) (refused 12) (pick (ltb (length s) (1 + 2 * counted s)) (refused 12) (entry_at s (k - 1))))))
 
 -- a refused book gives its own number; 12: there is no template k
-abbrev pub templateBy : List ℕ → (k : ℕ) → Reading → Template
-templateBy s k (reading.Refused r) = Refused r
-templateBy s k (reading.Book n) = pick (ltb k 1) (refused 12) (pick (ltb n k) (refused 12) (entry_at s (k - 1)))
+abbrev pub template_by : List ℕ → (k : ℕ) → Reading → Template
+template_by s k (reading.Refused r) = Refused r
+template_by s k (reading.Book n) = pick (ltb k 1) (refused 12) (pick (ltb n k) (refused 12) (entry_at s (k - 1)))
 
-unfoldable pub templateOf : List ℕ → (k : ℕ) → Template
-templateOf s k = templateBy s k (read_of s)
+unfoldable pub template_of : List ℕ → (k : ℕ) → Template
+template_of s k = template_by s k (read_of s)

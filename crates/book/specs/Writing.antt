@@ -7,24 +7,24 @@ use Rattle.book.specs.declared.table.Table.{Table}
 use Rattle.book.specs.declared.table.Table.TheVariants.{Total, Refused}
 
 -- the table: pairs of slot and length
-abbrev pub pairsOf : (slots lengths : List ℕ) → List ℕ
-pairsOf [] lengths = []
-pairsOf (x ∷ slots) [] = []
-pairsOf (x ∷ slots) (n ∷ lengths) = x ∷ n ∷ pairsOf slots lengths
+abbrev pub pairs_of : (slots lengths : List ℕ) → List ℕ
+pairs_of [] lengths = []
+pairs_of (x ∷ slots) [] = []
+pairs_of (x ∷ slots) (n ∷ lengths) = x ∷ n ∷ pairs_of slots lengths
 
 -- the count, the table, the bodies
-abbrev pub bookBytes : (slots lengths bodies : List ℕ) → List ℕ
-bookBytes slots lengths bodies = (length slots ∷ pairsOf slots lengths) ++ bodies
+abbrev pub book_bytes : (slots lengths bodies : List ℕ) → List ℕ
+book_bytes slots lengths bodies = (length slots ∷ pairs_of slots lengths) ++ bodies
 
 -- 32: bodies that are not as many bytes as the lengths say
-abbrev pub bodiesVerdict : (there : ℕ) → Table → Verdict
-bodiesVerdict there (Total t) = pick (not (eqb there t)) (fault 32) fine
-bodiesVerdict there (Refused r) = fault r.number
+abbrev pub bodies_verdict : (there : ℕ) → Table → Verdict
+bodies_verdict there (Total t) = pick (not (eqb there t)) (fault 32) fine
+bodies_verdict there (Refused r) = fault r.number
 
 -- 32, for all that reading would refuse: the count not 1 to 16; not as many lengths as slots; the table; the bodies
-unfoldable pub verdictOf : (slots lengths bodies : List ℕ) → Verdict
-verdictOf slots lengths bodies =
+unfoldable pub verdict_of : (slots lengths bodies : List ℕ) → Verdict
+verdict_of slots lengths bodies =
     pick (ltb (length slots) 1) (fault 32)
     (pick (ltb 16 (length slots)) (fault 32)
     (pick (not (eqb (length lengths) (length slots))) (fault 32)
-    (bodiesVerdict (length bodies) (table_of 0 0 slots lengths))))
+    (bodies_verdict (length bodies) (table_of 0 0 slots lengths))))

@@ -1,6 +1,6 @@
 // The table of a book: a slot and a length for each template.
 ghost use Rattle.std.specs.Prelude.{◌≡◌};
-ghost use Rattle.book.specs.Table.{goodPair};
+ghost use Rattle.book.specs.Table.{good_pair};
 
 use octets::Refusal;
 
@@ -13,7 +13,7 @@ pub enum Table {
 
 // Judges a slot, which is at least `least`, and its length.
 pub fn good_pair(least: u8, slot: u8, len: u8) -> bool
-    ensures { result ≡ goodPair least slot len }
+    ensures { result ≡ good_pair least slot len }
 {
     if slot < least {
         return false;

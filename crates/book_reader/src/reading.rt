@@ -1,6 +1,6 @@
 // Reading a book: all of the lent slice is one.
 ghost use Rattle.std.specs.Prelude.{◌≡◌};
-ghost use Rattle.book.specs.Reading.{bodiesBy, read_of};
+ghost use Rattle.book.specs.Reading.{bodies_by, read_of};
 
 use crate::table::table_in;
 use book::{Reading, Table};
@@ -8,7 +8,7 @@ use octets::Refusal;
 
 // Judges the bodies of a book, of which `there` bytes are there, by what its table comes to.
 fn bodies(there: usize, count: usize, table: Table) -> Reading
-    ensures { result ≡ bodiesBy there count table }
+    ensures { result ≡ bodies_by there count table }
 {
     match table {
         Table::Refused(refusal) => Reading::Refused(refusal),

@@ -1,6 +1,6 @@
 // The table that stands in the bytes of a book.
 ghost use Rattle.std.specs.Prelude.{◌≡◌, ◌+◌, ◌*◌, ◌≤◌, length};
-ghost use Rattle.book.specs.Table.{everySecond, sum_of, table_of};
+ghost use Rattle.book.specs.Table.{every_second, sum_of, table_of};
 
 use book::{Table, good_pair};
 use octets::Refusal;
@@ -8,7 +8,7 @@ use octets::Refusal;
 // Judges the table of n pairs.
 pub(crate) fn table_in(bytes: &[u8], n: usize) -> Table
     requires { (n ≤ 16) × (1 + 2 * n ≤ length bytes.now) }
-    ensures { result ≡ table_of 0 0 (everySecond n 1 bytes.now) (everySecond n 2 bytes.now) }
+    ensures { result ≡ table_of 0 0 (every_second n 1 bytes.now) (every_second n 2 bytes.now) }
 {
     let mut k = 0;
     let mut least = 0;
@@ -29,7 +29,7 @@ pub(crate) fn table_in(bytes: &[u8], n: usize) -> Table
 // The sum of the first k lengths.
 pub(crate) fn sum_before(bytes: &[u8], k: usize) -> usize
     requires { (k ≤ 16) × (1 + 2 * k ≤ length bytes.now) }
-    ensures { (result ≡ sum_of (everySecond k 2 bytes.now)) × (result ≤ 255 * k) }
+    ensures { (result ≡ sum_of (every_second k 2 bytes.now)) × (result ≤ 255 * k) }
 {
     let mut i = 0;
     let mut sum = 0;

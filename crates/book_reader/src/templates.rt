@@ -1,6 +1,6 @@
 // Finding one template of a book.
 ghost use Rattle.std.specs.Prelude.{◌≡◌};
-ghost use Rattle.book.specs.Template.{listed_of, templateOf};
+ghost use Rattle.book.specs.Template.{listed_of, template_of};
 
 use crate::reading::read;
 use crate::table::sum_before;
@@ -38,7 +38,7 @@ pub fn listed(bytes: &[u8], k: usize) -> Template
 
 // Template k of a book, counted from 1. A k that the book does not have is the caller's fault.
 pub fn template(bytes: &[u8], k: usize) -> Template
-    ensures { result ≡ templateOf bytes.now k }
+    ensures { result ≡ template_of bytes.now k }
 {
     let reading = read(bytes);
     match reading {

@@ -3,7 +3,7 @@
 -- and so is the number of a poll, which has no byte.
 use Rattle.std.specs.Prelude.{ℕ, List, [], ◌∷◌, ◌++◌, get_or}
 use Rattle.octets.specs.Part.{part_of}
-use Rattle.octets.specs.Front.{Verdict, fault, answerBy, heldBy}
+use Rattle.octets.specs.Front.{Verdict, fault, answer_by, held_by}
 use Rattle.octets.specs.declared.Written.{Written}
 use Rattle.acyclic.specs.Calls as calls
 use Rattle.acyclic.specs.Answers as answers
@@ -11,60 +11,60 @@ use Rattle.acyclic.specs.declared.calls.CallReading.{CallReading}
 use Rattle.acyclic.specs.declared.calls.CallReading.TheVariants as call-reading
 use Rattle.acyclic.specs.declared.answers.AnswerReading.{AnswerReading}
 use Rattle.acyclic.specs.declared.answers.AnswerReading.TheVariants as answer-reading
-use Rattle.acyclic_fields.specs.Four.{callFour, answerFour, callNamed, answerNamed}
+use Rattle.acyclic_fields.specs.Four.{call_four, answer_four, call_named, answer_named}
 use Rattle.acyclic_fields.specs.declared.four.Case.{Case}
 use Rattle.acyclic_fields.specs.declared.four.Case.TheVariants as case
 
 -- start and length of the data behind them
-abbrev pub allFields : (four : List ℕ) (start len : ℕ) → List ℕ
-allFields four start len = four ++ (start ∷ len ∷ [])
+abbrev pub all_fields : (four : List ℕ) (start len : ℕ) → List ℕ
+all_fields four start len = four ++ (start ∷ len ∷ [])
 
 -- ---- reading
 
-abbrev pub callRefusal : CallReading → ℕ
-callRefusal (call-reading.Call c start len) = 0
-callRefusal (call-reading.Refused r) = r.number
+abbrev pub call_refusal : CallReading → ℕ
+call_refusal (call-reading.Call c start len) = 0
+call_refusal (call-reading.Refused r) = r.number
 
-abbrev pub answerRefusal : AnswerReading → ℕ
-answerRefusal (answer-reading.Answer x start len) = 0
-answerRefusal (answer-reading.Refused r) = r.number
+abbrev pub answer_refusal : AnswerReading → ℕ
+answer_refusal (answer-reading.Answer x start len) = 0
+answer_refusal (answer-reading.Refused r) = r.number
 
 -- what the lent fields hold then
-abbrev pub callAfter : CallReading → (before : List ℕ) → List ℕ
-callAfter (call-reading.Call c start len) before = allFields (callFour c) start len
-callAfter (call-reading.Refused r) before = before
+abbrev pub call_after : CallReading → (before : List ℕ) → List ℕ
+call_after (call-reading.Call c start len) before = all_fields (call_four c) start len
+call_after (call-reading.Refused r) before = before
 
-abbrev pub answerAfter : AnswerReading → (before : List ℕ) → List ℕ
-answerAfter (answer-reading.Answer x start len) before = allFields (answerFour x) start len
-answerAfter (answer-reading.Refused r) before = before
+abbrev pub answer_after : AnswerReading → (before : List ℕ) → List ℕ
+answer_after (answer-reading.Answer x start len) before = all_fields (answer_four x) start len
+answer_after (answer-reading.Refused r) before = before
 
 -- ---- writing, from the first four of the fields and the data
 
 abbrev pub call_in : (fields : List ℕ) → Case
-call_in fields = callNamed (get_or fields 0 0) (get_or fields 1 0) (get_or fields 2 0) (get_or fields 3 0)
+call_in fields = call_named (get_or fields 0 0) (get_or fields 1 0) (get_or fields 2 0) (get_or fields 3 0)
 
 abbrev pub answer_in : (fields : List ℕ) → Case
-answer_in fields = answerNamed (get_or fields 0 0) (get_or fields 1 0) (get_or fields 2 0) (get_or fields 3 0)
+answer_in fields = answer_named (get_or fields 0 0) (get_or fields 1 0) (get_or fields 2 0) (get_or fields 3 0)
 
 -- a number that names no case is reserved
-abbrev pub verdictAt : Case → (part : List ℕ) → Verdict
-verdictAt (case.Call c) part = calls.verdictFor c part
-verdictAt (case.Answer x) part = answers.verdictFor x part
-verdictAt case.Unknown part = fault 28
+abbrev pub verdict_at : Case → (part : List ℕ) → Verdict
+verdict_at (case.Call c) part = calls.verdict_for c part
+verdict_at (case.Answer x) part = answers.verdict_for x part
+verdict_at case.Unknown part = fault 28
 
 abbrev pub bytes_at : Case → (part : List ℕ) → List ℕ
-bytes_at (case.Call c) part = calls.bytesFor c part
-bytes_at (case.Answer x) part = answers.bytesFor x part
+bytes_at (case.Call c) part = calls.bytes_for c part
+bytes_at (case.Answer x) part = answers.bytes_for x part
 bytes_at case.Unknown part = []
 
 -- what is answered then at a lent slice of so many bytes, and what that slice holds
 abbrev pub answer_of : Case → (part : List ℕ) (room : ℕ) → Written
-answer_of k part room = answerBy (verdictAt k part) (bytes_at k part) room
+answer_of k part room = answer_by (verdict_at k part) (bytes_at k part) room
 
 abbrev pub held_of : Case → (part out : List ℕ) → List ℕ
-held_of k part out = heldBy (verdictAt k part) (bytes_at k part) out
+held_of k part out = held_by (verdict_at k part) (bytes_at k part) out
 
 -- ---- the data that fields name in the bytes s
 
-abbrev pub partIn : (s fields : List ℕ) → List ℕ
-partIn s fields = part_of s (get_or fields 4 0) (get_or fields 5 0)
+abbrev pub part_in : (s fields : List ℕ) → List ℕ
+part_in s fields = part_of s (get_or fields 4 0) (get_or fields 5 0)

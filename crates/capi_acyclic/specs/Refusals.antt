@@ -1,8 +1,8 @@
 -- 0 means accepted: what the functions of this crate answer is 0 exactly then, and a refusal number of document 01 else.
 use Rattle.std.specs.Prelude.{ℕ, ◌≡◌, refl, true, List, length}
-use Rattle.octets.specs.Refusals.{listed, numbered, isFine, Status, zero-accepted, listed-refused}
-use Rattle.acyclic.specs.Calls.{readCallOf}
-use Rattle.acyclic.specs.Answers.{readAnswerOf}
+use Rattle.octets.specs.Refusals.{listed, numbered, is_fine, Status, zero_accepted, listed_refused}
+use Rattle.acyclic.specs.Calls.{read_call_of}
+use Rattle.acyclic.specs.Answers.{read_answer_of}
 use Rattle.acyclic.specs.Refusals as acyclic
 use Rattle.acyclic.specs.declared.calls.CallReading.{CallReading}
 use Rattle.acyclic.specs.declared.calls.CallReading.TheVariants as call-reading
@@ -10,42 +10,42 @@ use Rattle.acyclic.specs.declared.answers.AnswerReading.{AnswerReading}
 use Rattle.acyclic.specs.declared.answers.AnswerReading.TheVariants as answer-reading
 use Rattle.acyclic_fields.specs.declared.four.Case.{Case}
 use Rattle.acyclic_fields.specs.declared.four.Case.TheVariants as case
-use Rattle.fields.specs.Outcome.{statusOf}
-use Rattle.fields.specs.Refusals.{is_written, written-status}
-use Rattle.capi_acyclic.specs.Acyclic.{callRefusal, answerRefusal, call_in, answer_in, verdictAt, bytes_at, answer_of}
+use Rattle.fields.specs.Outcome.{status_of}
+use Rattle.fields.specs.Refusals.{is_written, written_status}
+use Rattle.capi_acyclic.specs.Acyclic.{call_refusal, answer_refusal, call_in, answer_in, verdict_at, bytes_at, answer_of}
 
 -- ---- rabtunex_read_dpv1_call
 
-call_by : (r : CallReading) → numbered (acyclic.callVerdict r) ≡ true → Status (isFine (acyclic.callVerdict r)) (callRefusal r)
-call_by (call-reading.Call c start len) h = zero-accepted
-call_by (call-reading.Refused r) h = listed-refused h
+call_by : (r : CallReading) → numbered (acyclic.call_verdict r) ≡ true → Status (is_fine (acyclic.call_verdict r)) (call_refusal r)
+call_by (call-reading.Call c start len) h = zero_accepted
+call_by (call-reading.Refused r) h = listed_refused h
 
-pub read-dpv1-call-status : (s : List ℕ) → Status (isFine (acyclic.callVerdict (readCallOf s))) (callRefusal (readCallOf s))
-read-dpv1-call-status s = call_by (readCallOf s) (acyclic.call-numbered s)
+pub read_dpv1_call_status : (s : List ℕ) → Status (is_fine (acyclic.call_verdict (read_call_of s))) (call_refusal (read_call_of s))
+read_dpv1_call_status s = call_by (read_call_of s) (acyclic.call_numbered s)
 
 -- ---- rabtunex_read_dpv1_answer
 
-answer-by : (r : AnswerReading) → numbered (acyclic.answerVerdict r) ≡ true → Status (isFine (acyclic.answerVerdict r)) (answerRefusal r)
-answer-by (answer-reading.Answer x start len) h = zero-accepted
-answer-by (answer-reading.Refused r) h = listed-refused h
+answer_by_lem : (r : AnswerReading) → numbered (acyclic.answer_verdict r) ≡ true → Status (is_fine (acyclic.answer_verdict r)) (answer_refusal r)
+answer_by_lem (answer-reading.Answer x start len) h = zero_accepted
+answer_by_lem (answer-reading.Refused r) h = listed_refused h
 
-pub read-dpv1-answer-status : (s : List ℕ) → Status (isFine (acyclic.answerVerdict (readAnswerOf s))) (answerRefusal (readAnswerOf s))
-read-dpv1-answer-status s = answer-by (readAnswerOf s) (acyclic.answer-numbered s)
+pub read_dpv1_answer_status : (s : List ℕ) → Status (is_fine (acyclic.answer_verdict (read_answer_of s))) (answer_refusal (read_answer_of s))
+read_dpv1_answer_status s = answer_by_lem (read_answer_of s) (acyclic.answer_numbered s)
 
 -- ---- rabtunex_write_dpv1_call and rabtunex_write_dpv1_answer: whatever the fields name
 
-pub verdict-at : (k : Case) (part : List ℕ) → numbered (verdictAt k part) ≡ true
+pub verdict_at_lem : (k : Case) (part : List ℕ) → numbered (verdict_at k part) ≡ true
 unfolding listed
-verdict-at (case.Call c) part = acyclic.call-verdict-numbered c (length part)
-verdict-at (case.Answer x) part = acyclic.answer-verdict-numbered x (length part)
-verdict-at case.Unknown part = refl
+verdict_at_lem (case.Call c) part = acyclic.call_verdict_numbered c (length part)
+verdict_at_lem (case.Answer x) part = acyclic.answer_verdict_numbered x (length part)
+verdict_at_lem case.Unknown part = refl
 
-case-status : (k : Case) (part : List ℕ) (room : ℕ) → Status (is_written (verdictAt k part) (bytes_at k part) room) (statusOf (answer_of k part room))
-case-status k part room = written-status (verdictAt k part) (bytes_at k part) room (verdict-at k part)
+case_status : (k : Case) (part : List ℕ) (room : ℕ) → Status (is_written (verdict_at k part) (bytes_at k part) room) (status_of (answer_of k part room))
+case_status k part room = written_status (verdict_at k part) (bytes_at k part) room (verdict_at_lem k part)
 
 module _ (fields part : List ℕ) (room : ℕ) where
-  pub write-dpv1-call-status : Status (is_written (verdictAt (call_in fields) part) (bytes_at (call_in fields) part) room) (statusOf (answer_of (call_in fields) part room))
-  write-dpv1-call-status = case-status (call_in fields) part room
+  pub write_dpv1_call_status : Status (is_written (verdict_at (call_in fields) part) (bytes_at (call_in fields) part) room) (status_of (answer_of (call_in fields) part room))
+  write_dpv1_call_status = case_status (call_in fields) part room
 
-  pub write-dpv1-answer-status : Status (is_written (verdictAt (answer_in fields) part) (bytes_at (answer_in fields) part) room) (statusOf (answer_of (answer_in fields) part room))
-  write-dpv1-answer-status = case-status (answer_in fields) part room
+  pub write_dpv1_answer_status : Status (is_written (verdict_at (answer_in fields) part) (bytes_at (answer_in fields) part) room) (status_of (answer_of (answer_in fields) part room))
+  write_dpv1_answer_status = case_status (answer_in fields) part room

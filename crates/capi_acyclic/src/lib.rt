@@ -1,9 +1,9 @@
 // Calls and answers of DPV1 through the C interface, by the same six fields for reading and writing.
 ghost use Rattle.std.specs.Prelude.{◌≡◌, length};
-ghost use Rattle.acyclic.specs.Calls.{readCallOf};
-ghost use Rattle.acyclic.specs.Answers.{readAnswerOf};
-ghost use Rattle.fields.specs.Outcome.{statusOf, countAfter};
-ghost use Rattle.capi_acyclic.specs.Acyclic.{callRefusal, answerRefusal, callAfter, answerAfter, call_in, answer_in, answer_of, held_of};
+ghost use Rattle.acyclic.specs.Calls.{read_call_of};
+ghost use Rattle.acyclic.specs.Answers.{read_answer_of};
+ghost use Rattle.fields.specs.Outcome.{status_of, count_after};
+ghost use Rattle.capi_acyclic.specs.Acyclic.{call_refusal, answer_refusal, call_after, answer_after, call_in, answer_in, answer_of, held_of};
 
 use acyclic::{AnswerReading, CallReading};
 use acyclic_fields::Case;
@@ -12,8 +12,8 @@ use fields::store_count;
 // Reads a call into its fields.
 #[unsafe(no_mangle)]
 pub extern "C" fn rabtunex_read_dpv1_call(bytes: &[u8], fields: &mut [u8; 6]) -> u8
-    ensures refusal { result ≡ callRefusal (readCallOf bytes.now) }
-    ensures fields { fields.new ≡ callAfter (readCallOf bytes.now) fields.old }
+    ensures refusal { result ≡ call_refusal (read_call_of bytes.now) }
+    ensures fields { fields.new ≡ call_after (read_call_of bytes.now) fields.old }
 {
     let reading = acyclic_reader::read_call(bytes);
     match reading {
@@ -29,8 +29,8 @@ pub extern "C" fn rabtunex_read_dpv1_call(bytes: &[u8], fields: &mut [u8; 6]) ->
 // Reads an answer into its fields.
 #[unsafe(no_mangle)]
 pub extern "C" fn rabtunex_read_dpv1_answer(bytes: &[u8], fields: &mut [u8; 6]) -> u8
-    ensures refusal { result ≡ answerRefusal (readAnswerOf bytes.now) }
-    ensures fields { fields.new ≡ answerAfter (readAnswerOf bytes.now) fields.old }
+    ensures refusal { result ≡ answer_refusal (read_answer_of bytes.now) }
+    ensures fields { fields.new ≡ answer_after (read_answer_of bytes.now) fields.old }
 {
     let reading = acyclic_reader::read_answer(bytes);
     match reading {
@@ -52,9 +52,9 @@ pub extern "C" fn rabtunex_read_dpv1_answer(bytes: &[u8], fields: &mut [u8; 6]) 
 
 // Writes what was named, with its data, and its length to stored.
 fn write_case(case: Case, part: &[u8], out: &mut [u8], stored: &mut usize) -> u8
-    ensures refusal { result ≡ statusOf (answer_of case part.now (length out.old)) }
+    ensures refusal { result ≡ status_of (answer_of case part.now (length out.old)) }
     ensures bytes { out.new ≡ held_of case part.now out.old }
-    ensures count { stored.new ≡ countAfter (answer_of case part.now (length out.old)) stored.old }
+    ensures count { stored.new ≡ count_after (answer_of case part.now (length out.old)) stored.old }
 {
     match case {
         Case::Call(call) => store_count(acyclic_writer::write_call(call, part, out), stored),
@@ -74,9 +74,9 @@ pub extern "C" fn rabtunex_write_dpv1_call(
     out: &mut [u8],
     stored: &mut usize,
 ) -> u8
-    ensures refusal { result ≡ statusOf (answer_of (call_in fields.now) part.now (length out.old)) }
+    ensures refusal { result ≡ status_of (answer_of (call_in fields.now) part.now (length out.old)) }
     ensures bytes { out.new ≡ held_of (call_in fields.now) part.now out.old }
-    ensures count { stored.new ≡ countAfter (answer_of (call_in fields.now) part.now (length out.old)) stored.old }
+    ensures count { stored.new ≡ count_after (answer_of (call_in fields.now) part.now (length out.old)) stored.old }
 {
     let case = acyclic_fields::call_named(fields[0], fields[1], fields[2], fields[3]);
     write_case(case, part, out, stored)
@@ -90,9 +90,9 @@ pub extern "C" fn rabtunex_write_dpv1_answer(
     out: &mut [u8],
     stored: &mut usize,
 ) -> u8
-    ensures refusal { result ≡ statusOf (answer_of (answer_in fields.now) part.now (length out.old)) }
+    ensures refusal { result ≡ status_of (answer_of (answer_in fields.now) part.now (length out.old)) }
     ensures bytes { out.new ≡ held_of (answer_in fields.now) part.now out.old }
-    ensures count { stored.new ≡ countAfter (answer_of (answer_in fields.now) part.now (length out.old)) stored.old }
+    ensures count { stored.new ≡ count_after (answer_of (answer_in fields.now) part.now (length out.old)) stored.old }
 {
     let case = acyclic_fields::answer_named(fields[0], fields[1], fields[2], fields[3]);
     write_case(case, part, out, stored)

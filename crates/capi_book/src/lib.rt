@@ -1,9 +1,9 @@
 // Template books through the C interface: how many templates one has, each template, and writing.
 ghost use Rattle.std.specs.Prelude.{◌≡◌, length};
 ghost use Rattle.book.specs.Reading.{read_of};
-ghost use Rattle.book.specs.Template.{templateOf};
-ghost use Rattle.fields.specs.Outcome.{statusOf, countAfter};
-ghost use Rattle.capi_book.specs.Book.{refusalOf, templatesAfter, templateRefusal, fieldsAfter, answer_of, held_of};
+ghost use Rattle.book.specs.Template.{template_of};
+ghost use Rattle.fields.specs.Outcome.{status_of, count_after};
+ghost use Rattle.capi_book.specs.Book.{refusal_of, templates_after, template_refusal, fields_after, answer_of, held_of};
 
 use book::{Reading, Template};
 use fields::store_count;
@@ -11,8 +11,8 @@ use fields::store_count;
 // Reads a book, and stores how many templates it has.
 #[unsafe(no_mangle)]
 pub extern "C" fn rabtunex_read_book(bytes: &[u8], count: &mut usize) -> u8
-    ensures refusal { result ≡ refusalOf (read_of bytes.now) }
-    ensures count { count.new ≡ templatesAfter (read_of bytes.now) count.old }
+    ensures refusal { result ≡ refusal_of (read_of bytes.now) }
+    ensures count { count.new ≡ templates_after (read_of bytes.now) count.old }
 {
     let reading = book_reader::read(bytes);
     match reading {
@@ -27,8 +27,8 @@ pub extern "C" fn rabtunex_read_book(bytes: &[u8], count: &mut usize) -> u8
 // Finds template k of a book, counted from 1, and stores its slot and where its body is.
 #[unsafe(no_mangle)]
 pub extern "C" fn rabtunex_book_template(bytes: &[u8], k: usize, fields: &mut [usize; 3]) -> u8
-    ensures refusal { result ≡ templateRefusal (templateOf bytes.now k) }
-    ensures fields { fields.new ≡ fieldsAfter (templateOf bytes.now k) fields.old }
+    ensures refusal { result ≡ template_refusal (template_of bytes.now k) }
+    ensures fields { fields.new ≡ fields_after (template_of bytes.now k) fields.old }
 {
     let found = book_reader::template(bytes, k);
     match found {
@@ -49,9 +49,9 @@ pub extern "C" fn rabtunex_write_book(
     out: &mut [u8],
     stored: &mut usize,
 ) -> u8
-    ensures refusal { result ≡ statusOf (answer_of slots.now lengths.now bodies.now (length out.old)) }
+    ensures refusal { result ≡ status_of (answer_of slots.now lengths.now bodies.now (length out.old)) }
     ensures bytes { out.new ≡ held_of slots.now lengths.now bodies.now out.old }
-    ensures count { stored.new ≡ countAfter (answer_of slots.now lengths.now bodies.now (length out.old)) stored.old }
+    ensures count { stored.new ≡ count_after (answer_of slots.now lengths.now bodies.now (length out.old)) stored.old }
 {
     let written = book_writer::write(slots, lengths, bodies, out);
     store_count(written, stored)

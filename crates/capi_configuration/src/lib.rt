@@ -1,6 +1,6 @@
 // Configuration through the C interface: the offsets of its modules, and its totals.
 ghost use Rattle.std.specs.Prelude.{◌≡◌};
-ghost use Rattle.capi_configuration.specs.Configuration.{offsetsOf, refusalOf, totalsAfter, inputsAfter, outputsAfter};
+ghost use Rattle.capi_configuration.specs.Configuration.{offsets_of, refusal_of, totals_after, inputs_after, outputs_after};
 
 use configuration::Reading;
 
@@ -12,10 +12,10 @@ pub extern "C" fn rabtunex_configuration_offsets(
     outputs: &mut [u16],
     totals: &mut [usize; 3],
 ) -> u8
-    ensures refusal { result ≡ refusalOf (offsetsOf bytes.now inputs.old outputs.old) }
-    ensures inputs { inputs.new ≡ inputsAfter bytes.now inputs.old outputs.old }
-    ensures outputs { outputs.new ≡ outputsAfter bytes.now inputs.old outputs.old }
-    ensures totals { totals.new ≡ totalsAfter (offsetsOf bytes.now inputs.old outputs.old) totals.old }
+    ensures refusal { result ≡ refusal_of (offsets_of bytes.now inputs.old outputs.old) }
+    ensures inputs { inputs.new ≡ inputs_after bytes.now inputs.old outputs.old }
+    ensures outputs { outputs.new ≡ outputs_after bytes.now inputs.old outputs.old }
+    ensures totals { totals.new ≡ totals_after (offsets_of bytes.now inputs.old outputs.old) totals.old }
 {
     let reading = configuration_reader::offsets(bytes, inputs, outputs);
     match reading {

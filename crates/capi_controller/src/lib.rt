@@ -1,6 +1,6 @@
 // The controller's step through the C interface.
 ghost use Rattle.std.specs.Prelude.{◌≡◌};
-ghost use Rattle.capi_controller.specs.ControllerEnd.{controllerStep, refusalIn, stateAfter, storedAfter, endingAfter};
+ghost use Rattle.capi_controller.specs.ControllerEnd.{controller_step, refusal_in, state_after, stored_after, ending_after};
 
 use controller_bytes::{
     ControllerFound, controller_in, put_controller, put_ending, put_going_on, settings_in,
@@ -10,10 +10,10 @@ use protocol::Action;
 // Stores the controller after a step, the length of its request and how the download stands, and answers the
 // refusal, 0 for none.
 fn put_action(action: Action, state: &mut [u8; 5], stored: &mut usize, ending: &mut [u8; 4]) -> u8
-    ensures refusal { result ≡ refusalIn action }
-    ensures state { state.new ≡ stateAfter action state.old }
-    ensures stored { stored.new ≡ storedAfter action stored.old }
-    ensures ending { ending.new ≡ endingAfter action ending.old }
+    ensures refusal { result ≡ refusal_in action }
+    ensures state { state.new ≡ state_after action state.old }
+    ensures stored { stored.new ≡ stored_after action stored.old }
+    ensures ending { ending.new ≡ ending_after action ending.old }
 {
     match action {
         Action::Send {
@@ -45,11 +45,11 @@ pub extern "C" fn rabtunex_controller_step(
     stored: &mut usize,
     ending: &mut [u8; 4],
 ) -> u8
-    ensures refusal { result ≡ refusalIn (controllerStep settings.now book.now state.old reply.now request.old).answer }
-    ensures state { state.new ≡ stateAfter (controllerStep settings.now book.now state.old reply.now request.old).answer state.old }
-    ensures request { request.new ≡ (controllerStep settings.now book.now state.old reply.now request.old).buffer }
-    ensures stored { stored.new ≡ storedAfter (controllerStep settings.now book.now state.old reply.now request.old).answer stored.old }
-    ensures ending { ending.new ≡ endingAfter (controllerStep settings.now book.now state.old reply.now request.old).answer ending.old }
+    ensures refusal { result ≡ refusal_in (controller_step settings.now book.now state.old reply.now request.old).answer }
+    ensures state { state.new ≡ state_after (controller_step settings.now book.now state.old reply.now request.old).answer state.old }
+    ensures request { request.new ≡ (controller_step settings.now book.now state.old reply.now request.old).buffer }
+    ensures stored { stored.new ≡ stored_after (controller_step settings.now book.now state.old reply.now request.old).answer stored.old }
+    ensures ending { ending.new ≡ ending_after (controller_step settings.now book.now state.old reply.now request.old).answer ending.old }
 {
     let found = controller_in(state);
     match found {

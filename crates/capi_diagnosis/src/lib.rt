@@ -1,17 +1,17 @@
 // Diagnosis through the C interface: its header, and its blocks one at a time.
 ghost use Rattle.std.specs.Prelude.{◌≡◌};
-ghost use Rattle.diagnosis.specs.Map.{lowestNumber};
+ghost use Rattle.diagnosis.specs.Map.{lowest_number};
 ghost use Rattle.diagnosis.specs.Reading.{read_of};
 ghost use Rattle.diagnosis.specs.Walk.{next_of};
-ghost use Rattle.capi_diagnosis.specs.Diagnosis.{refusalOf, fieldsAfter, blockNumbers, stepRefusal, blockAfter, positionAfter};
+ghost use Rattle.capi_diagnosis.specs.Diagnosis.{refusal_of, fields_after, block_numbers, step_refusal, block_after, position_after};
 
 use diagnosis::{Block, Lowest, Position, Reading, Step};
 
 // Reads a diagnosis into its fields.
 #[unsafe(no_mangle)]
 pub extern "C" fn rabtunex_read_diagnosis(bytes: &[u8], fields: &mut [usize; 6]) -> u8
-    ensures refusal { result ≡ refusalOf (read_of bytes.now) }
-    ensures fields { fields.new ≡ fieldsAfter (read_of bytes.now) fields.old }
+    ensures refusal { result ≡ refusal_of (read_of bytes.now) }
+    ensures fields { fields.new ≡ fields_after (read_of bytes.now) fields.old }
 {
     let reading = diagnosis_reader::read(bytes);
     match reading {
@@ -32,7 +32,7 @@ pub extern "C" fn rabtunex_read_diagnosis(bytes: &[u8], fields: &mut [usize; 6])
 
 // No module has the number that stands for none: the longest map has the modules 0 to 495.
 fn lowest_number(lowest: Lowest) -> usize
-    ensures { result ≡ lowestNumber lowest }
+    ensures { result ≡ lowest_number lowest }
 {
     match lowest {
         Lowest::Module(number) => number,
@@ -42,7 +42,7 @@ fn lowest_number(lowest: Lowest) -> usize
 
 // Stores the kind of a block and what it says.
 fn put_block(found: Block, block: &mut [usize; 6])
-    ensures { block.new ≡ blockNumbers found }
+    ensures { block.new ≡ block_numbers found }
 {
     match found {
         Block::Device { start, len } => {
@@ -76,9 +76,9 @@ pub extern "C" fn rabtunex_next_block(
     position: &mut usize,
     block: &mut [usize; 6],
 ) -> u8
-    ensures refusal { result ≡ stepRefusal (next_of bytes.now position.old) }
-    ensures position { position.new ≡ positionAfter (next_of bytes.now position.old) position.old }
-    ensures block { block.new ≡ blockAfter (next_of bytes.now position.old) block.old }
+    ensures refusal { result ≡ step_refusal (next_of bytes.now position.old) }
+    ensures position { position.new ≡ position_after (next_of bytes.now position.old) position.old }
+    ensures block { block.new ≡ block_after (next_of bytes.now position.old) block.old }
 {
     let at = *position;
     let step = diagnosis_walk::next(bytes, Position { at });

@@ -1,6 +1,6 @@
 // The whole download through the C interface.
 ghost use Rattle.std.specs.Prelude.{◌≡◌};
-ghost use Rattle.capi_download.specs.Joined.{downloadBetween, refusalIn, stateAfter, endingAfter, sendingsAfter};
+ghost use Rattle.capi_download.specs.Joined.{download_between, refusal_in, state_after, ending_after, sendings_after};
 
 use controller_bytes::{put_ending, settings_in};
 use printer_bytes::{PrinterFound, printer_in, put_printer};
@@ -14,10 +14,10 @@ fn put_downloaded(
     ending: &mut [u8; 4],
     sendings: &mut usize,
 ) -> u8
-    ensures refusal { result ≡ refusalIn downloaded }
-    ensures state { state.new ≡ stateAfter downloaded state.old }
-    ensures ending { ending.new ≡ endingAfter downloaded ending.old }
-    ensures sendings { sendings.new ≡ sendingsAfter downloaded sendings.old }
+    ensures refusal { result ≡ refusal_in downloaded }
+    ensures state { state.new ≡ state_after downloaded state.old }
+    ensures ending { ending.new ≡ ending_after downloaded ending.old }
+    ensures sendings { sendings.new ≡ sendings_after downloaded sendings.old }
 {
     match downloaded {
         Downloaded::Ended {
@@ -50,14 +50,14 @@ pub extern "C" fn rabtunex_download(
     ending: &mut [u8; 4],
     sendings: &mut usize,
 ) -> u8
-    ensures refusal { result ≡ refusalIn (downloadBetween settings.now book.now line.now not_yet.now diagnosis.now state.old lengths.old bodies.old reply.old request.old).answer }
-    ensures state { state.new ≡ stateAfter (downloadBetween settings.now book.now line.now not_yet.now diagnosis.now state.old lengths.old bodies.old reply.old request.old).answer state.old }
-    ensures lengths { lengths.new ≡ (downloadBetween settings.now book.now line.now not_yet.now diagnosis.now state.old lengths.old bodies.old reply.old request.old).slots.lengths }
-    ensures bodies { bodies.new ≡ (downloadBetween settings.now book.now line.now not_yet.now diagnosis.now state.old lengths.old bodies.old reply.old request.old).slots.bodies }
-    ensures reply { reply.new ≡ (downloadBetween settings.now book.now line.now not_yet.now diagnosis.now state.old lengths.old bodies.old reply.old request.old).reply }
-    ensures request { request.new ≡ (downloadBetween settings.now book.now line.now not_yet.now diagnosis.now state.old lengths.old bodies.old reply.old request.old).request }
-    ensures ending { ending.new ≡ endingAfter (downloadBetween settings.now book.now line.now not_yet.now diagnosis.now state.old lengths.old bodies.old reply.old request.old).answer ending.old }
-    ensures sendings { sendings.new ≡ sendingsAfter (downloadBetween settings.now book.now line.now not_yet.now diagnosis.now state.old lengths.old bodies.old reply.old request.old).answer sendings.old }
+    ensures refusal { result ≡ refusal_in (download_between settings.now book.now line.now not_yet.now diagnosis.now state.old lengths.old bodies.old reply.old request.old).answer }
+    ensures state { state.new ≡ state_after (download_between settings.now book.now line.now not_yet.now diagnosis.now state.old lengths.old bodies.old reply.old request.old).answer state.old }
+    ensures lengths { lengths.new ≡ (download_between settings.now book.now line.now not_yet.now diagnosis.now state.old lengths.old bodies.old reply.old request.old).slots.lengths }
+    ensures bodies { bodies.new ≡ (download_between settings.now book.now line.now not_yet.now diagnosis.now state.old lengths.old bodies.old reply.old request.old).slots.bodies }
+    ensures reply { reply.new ≡ (download_between settings.now book.now line.now not_yet.now diagnosis.now state.old lengths.old bodies.old reply.old request.old).reply }
+    ensures request { request.new ≡ (download_between settings.now book.now line.now not_yet.now diagnosis.now state.old lengths.old bodies.old reply.old request.old).request }
+    ensures ending { ending.new ≡ ending_after (download_between settings.now book.now line.now not_yet.now diagnosis.now state.old lengths.old bodies.old reply.old request.old).answer ending.old }
+    ensures sendings { sendings.new ≡ sendings_after (download_between settings.now book.now line.now not_yet.now diagnosis.now state.old lengths.old bodies.old reply.old request.old).answer sendings.old }
 {
     let found = printer_in(state);
     match found {

@@ -1,15 +1,15 @@
 // The printer's step through the C interface.
 ghost use Rattle.std.specs.Prelude.{◌≡◌};
-ghost use Rattle.capi_printer.specs.PrinterEnd.{printerStep, refusalIn, stateAfter, sentAfter};
+ghost use Rattle.capi_printer.specs.PrinterEnd.{printer_step, refusal_in, state_after, sent_after};
 
 use printer_bytes::{PrinterFound, printer_in, put_printer};
 use protocol::Reaction;
 
 // Stores the printer after a step and how many bytes it sends back, and answers the refusal, 0 for none.
 fn put_reaction(reaction: Reaction, state: &mut [u8; 11], sent: &mut usize) -> u8
-    ensures refusal { result ≡ refusalIn reaction }
-    ensures state { state.new ≡ stateAfter reaction state.old }
-    ensures sent { sent.new ≡ sentAfter reaction sent.old }
+    ensures refusal { result ≡ refusal_in reaction }
+    ensures state { state.new ≡ state_after reaction state.old }
+    ensures sent { sent.new ≡ sent_after reaction sent.old }
 {
     match reaction {
         Reaction::Heard { printer, reply } => {
@@ -33,12 +33,12 @@ pub extern "C" fn rabtunex_printer_step(
     reply: &mut [u8],
     sent: &mut usize,
 ) -> u8
-    ensures refusal { result ≡ refusalIn (printerStep state.old telegram.now diagnosis.now not_yet lengths.old bodies.old reply.old).answer }
-    ensures state { state.new ≡ stateAfter (printerStep state.old telegram.now diagnosis.now not_yet lengths.old bodies.old reply.old).answer state.old }
-    ensures lengths { lengths.new ≡ (printerStep state.old telegram.now diagnosis.now not_yet lengths.old bodies.old reply.old).slots.lengths }
-    ensures bodies { bodies.new ≡ (printerStep state.old telegram.now diagnosis.now not_yet lengths.old bodies.old reply.old).slots.bodies }
-    ensures reply { reply.new ≡ (printerStep state.old telegram.now diagnosis.now not_yet lengths.old bodies.old reply.old).buffer }
-    ensures sent { sent.new ≡ sentAfter (printerStep state.old telegram.now diagnosis.now not_yet lengths.old bodies.old reply.old).answer sent.old }
+    ensures refusal { result ≡ refusal_in (printer_step state.old telegram.now diagnosis.now not_yet lengths.old bodies.old reply.old).answer }
+    ensures state { state.new ≡ state_after (printer_step state.old telegram.now diagnosis.now not_yet lengths.old bodies.old reply.old).answer state.old }
+    ensures lengths { lengths.new ≡ (printer_step state.old telegram.now diagnosis.now not_yet lengths.old bodies.old reply.old).slots.lengths }
+    ensures bodies { bodies.new ≡ (printer_step state.old telegram.now diagnosis.now not_yet lengths.old bodies.old reply.old).slots.bodies }
+    ensures reply { reply.new ≡ (printer_step state.old telegram.now diagnosis.now not_yet lengths.old bodies.old reply.old).buffer }
+    ensures sent { sent.new ≡ sent_after (printer_step state.old telegram.now diagnosis.now not_yet lengths.old bodies.old reply.old).answer sent.old }
 {
     let found = printer_in(state);
     match found {

@@ -1,7 +1,7 @@
 // Service telegrams through the C interface: reading one into eighteen fields.
 ghost use Rattle.std.specs.Prelude.{◌≡◌};
 ghost use Rattle.service_fields.specs.Service.{mode_of};
-ghost use Rattle.capi_service.specs.Service.{wayNumber, fields_of, readIn, refusalOf, fieldsAfter};
+ghost use Rattle.capi_service.specs.Service.{way_number, fields_of, read_in, refusal_of, fields_after};
 
 use content::Content;
 use fdl::Format;
@@ -10,7 +10,7 @@ use octets::Mode;
 use service::{Reading, Way};
 
 fn way_number(way: Way) -> u8
-    ensures { result ≡ wayNumber way }
+    ensures { result ≡ way_number way }
 {
     match way {
         Way::Call => 0,
@@ -63,8 +63,8 @@ fn mode_of(version: u8) -> Mode
 // Reads a service telegram into its fields.
 #[unsafe(no_mangle)]
 pub extern "C" fn rabtunex_read_service(bytes: &[u8], version: u8, fields: &mut [u8; 18]) -> u8
-    ensures refusal { result ≡ refusalOf (readIn bytes.now version) }
-    ensures fields { fields.new ≡ fieldsAfter (readIn bytes.now version) fields.old }
+    ensures refusal { result ≡ refusal_of (read_in bytes.now version) }
+    ensures fields { fields.new ≡ fields_after (read_in bytes.now version) fields.old }
 {
     if 1 < version {
         return 12;

@@ -1,10 +1,10 @@
 // Service telegrams through the C interface: writing one from its fields.
 ghost use Rattle.std.specs.Prelude.{◌≡◌, ◌+◌, length};
 ghost use Rattle.octets.specs.Choice.{pick};
-ghost use Rattle.octets.specs.Front.{answerBy, heldBy};
-ghost use Rattle.access.specs.Route.{serviceRoute};
-ghost use Rattle.fields.specs.Outcome.{statusOf, countAfter};
-ghost use Rattle.capi_service.specs.Service.{lackingNumber, reservedBy, namedVerdict, namedBytes, answer_of, held_of};
+ghost use Rattle.octets.specs.Front.{answer_by, held_by};
+ghost use Rattle.access.specs.Route.{service_route};
+ghost use Rattle.fields.specs.Outcome.{status_of, count_after};
+ghost use Rattle.capi_service.specs.Service.{lacking_number, reserved_by, named_verdict, named_bytes, answer_of, held_of};
 
 use access::{Route, Service};
 use fdl::Format;
@@ -22,7 +22,7 @@ fn lacking_number(
     len: usize,
     number: u8,
 ) -> u8
-    ensures { result ≡ lackingNumber format service fields.now (fixed + len) number }
+    ensures { result ≡ lacking_number format service fields.now (fixed + len) number }
 {
     let header = routing::header_of(service, fields[3], fields[4], fields[5]);
     if framing::writable_with(format, header, fixed, len) {
@@ -34,7 +34,7 @@ fn lacking_number(
 
 // A DPV1 number that the way does not have.
 fn reserved_number(right: bool, fc: u8) -> u8
-    ensures { result ≡ pick right (reservedBy (serviceRoute Service.Dpv1 fc)) 10 }
+    ensures { result ≡ pick right (reserved_by (service_route Service.Dpv1 fc)) 10 }
 {
     if !right {
         return 10;
@@ -56,8 +56,8 @@ fn write_named(
     part: &[u8],
     out: &mut [u8],
 ) -> Written
-    ensures answer { result ≡ answerBy (namedVerdict named right format fields.now part.now) (namedBytes named format fields.now part.now) (length out.old) }
-    ensures bytes { out.new ≡ heldBy (namedVerdict named right format fields.now part.now) (namedBytes named format fields.now part.now) out.old }
+    ensures answer { result ≡ answer_by (named_verdict named right format fields.now part.now) (named_bytes named format fields.now part.now) (length out.old) }
+    ensures bytes { out.new ≡ held_by (named_verdict named right format fields.now part.now) (named_bytes named format fields.now part.now) out.old }
 {
     let len = part.len();
     match named {
@@ -91,9 +91,9 @@ pub extern "C" fn rabtunex_write_service(
     out: &mut [u8],
     stored: &mut usize,
 ) -> u8
-    ensures refusal { result ≡ statusOf (answer_of fields.now version part.now (length out.old)) }
+    ensures refusal { result ≡ status_of (answer_of fields.now version part.now (length out.old)) }
     ensures bytes { out.new ≡ held_of fields.now version part.now out.old }
-    ensures count { stored.new ≡ countAfter (answer_of fields.now version part.now (length out.old)) stored.old }
+    ensures count { stored.new ≡ count_after (answer_of fields.now version part.now (length out.old)) stored.old }
 {
     if 1 < version {
         return 12;

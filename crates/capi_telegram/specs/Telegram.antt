@@ -3,13 +3,13 @@
 use Rattle.std.specs.Prelude.{ℕ, List, [], ◌∷◌, length, get_or, eqb}
 use Rattle.octets.specs.Choice.{pick}
 use Rattle.octets.specs.Part.{part_of}
-use Rattle.octets.specs.Front.{Verdict, fine, fault, answerBy, heldBy}
+use Rattle.octets.specs.Front.{Verdict, fine, fault, answer_by, held_by}
 use Rattle.octets.specs.declared.Written.{Written}
-use Rattle.fdl.specs.Writing.{telegramOf, verdictOf, tokenBytes, tokenVerdict, confirmationBytes}
+use Rattle.fdl.specs.Writing.{telegram_of, verdict_of, token_bytes, token_verdict, confirmation_bytes}
 use Rattle.fdl.specs.declared.telegram.Header.{Header}
 use Rattle.fdl.specs.declared.telegram.Sap.{Sap}
 use Rattle.fdl.specs.declared.telegram.Sap.TheVariants.{Absent, Present}
-use Rattle.fields.specs.Kinds.{confirmationNumber, tokenNumber, formatNumber, kind_of}
+use Rattle.fields.specs.Kinds.{confirmation_number, token_number, format_number, kind_of}
 use Rattle.fields.specs.declared.kinds.Kind.{Kind}
 use Rattle.fields.specs.declared.kinds.Kind.TheVariants as kind
 use Rattle.fdl.specs.declared.reading.Reading.{Reading}
@@ -18,74 +18,74 @@ use Rattle.fdl.specs.declared.reading.Reading.TheVariants.{Confirmation, Token, 
 -- ---- the numbers of the fields
 
 -- that of no access point
-abbrev pub noSap : ℕ
-noSap = 255
+abbrev pub no_sap : ℕ
+no_sap = 255
 
-abbrev pub sapNumber : Sap → ℕ
-sapNumber Absent = noSap
-sapNumber (Present x) = x
+abbrev pub sap_number : Sap → ℕ
+sap_number Absent = no_sap
+sap_number (Present x) = x
 
-abbrev pub sapOf : ℕ → Sap
-sapOf n = pick (eqb n noSap) Absent (Present n)
+abbrev pub sap_of : ℕ → Sap
+sap_of n = pick (eqb n no_sap) Absent (Present n)
 
 -- ---- reading
 
-abbrev pub refusalOf : Reading → ℕ
-refusalOf Confirmation = 0
-refusalOf (Token da sa) = 0
-refusalOf (Telegram f h start len) = 0
-refusalOf (Refused r) = r.number
+abbrev pub refusal_of : Reading → ℕ
+refusal_of Confirmation = 0
+refusal_of (Token da sa) = 0
+refusal_of (Telegram f h start len) = 0
+refusal_of (Refused r) = r.number
 
 -- the fields of SD1, SD2 and SD3
-abbrev pub telegramFields : (kind : ℕ) → Header → (start len : ℕ) → List ℕ
-telegramFields kind h start len = kind ∷ h.da ∷ h.sa ∷ h.fc ∷ sapNumber h.dsap ∷ sapNumber h.ssap ∷ start ∷ len ∷ []
+abbrev pub telegram_fields : (kind : ℕ) → Header → (start len : ℕ) → List ℕ
+telegram_fields kind h start len = kind ∷ h.da ∷ h.sa ∷ h.fc ∷ sap_number h.dsap ∷ sap_number h.ssap ∷ start ∷ len ∷ []
 
 -- what the lent fields hold then
-abbrev pub fieldsAfter : Reading → (before : List ℕ) → List ℕ
-fieldsAfter Confirmation before = confirmationNumber ∷ 0 ∷ 0 ∷ 0 ∷ noSap ∷ noSap ∷ 0 ∷ 0 ∷ []
-fieldsAfter (Token da sa) before = tokenNumber ∷ da ∷ sa ∷ 0 ∷ noSap ∷ noSap ∷ 0 ∷ 0 ∷ []
-fieldsAfter (Telegram f h start len) before = telegramFields (formatNumber f) h start len
-fieldsAfter (Refused r) before = before
+abbrev pub fields_after : Reading → (before : List ℕ) → List ℕ
+fields_after Confirmation before = confirmation_number ∷ 0 ∷ 0 ∷ 0 ∷ no_sap ∷ no_sap ∷ 0 ∷ 0 ∷ []
+fields_after (Token da sa) before = token_number ∷ da ∷ sa ∷ 0 ∷ no_sap ∷ no_sap ∷ 0 ∷ 0 ∷ []
+fields_after (Telegram f h start len) before = telegram_fields (format_number f) h start len
+fields_after (Refused r) before = before
 
 -- ---- writing, from the first six of the fields and the user data
 
-abbrev pub headerOf : List ℕ → Header
-headerOf fields =
+abbrev pub header_of : List ℕ → Header
+header_of fields =
     record {
       da = get_or fields 1 0;
       sa = get_or fields 2 0;
       fc = get_or fields 3 0;
-      dsap = sapOf (get_or fields 4 0);
-      ssap = sapOf (get_or fields 5 0);
+      dsap = sap_of (get_or fields 4 0);
+      ssap = sap_of (get_or fields 5 0);
     }
 
 -- a short confirmation and a token have no user data
-abbrev pub withoutData : (user : List ℕ) → Verdict → Verdict
-withoutData user v = pick (eqb (length user) 0) v (fault 12)
+abbrev pub without_data : (user : List ℕ) → Verdict → Verdict
+without_data user v = pick (eqb (length user) 0) v (fault 12)
 
-abbrev pub verdictAt : Kind → (fields user : List ℕ) → Verdict
-verdictAt kind.Confirmation fields user = withoutData user fine
-verdictAt kind.Token fields user = withoutData user (tokenVerdict (get_or fields 1 0) (get_or fields 2 0))
-verdictAt (kind.Telegram f) fields user = verdictOf f (headerOf fields) user
-verdictAt kind.Unknown fields user = fault 12
+abbrev pub verdict_at : Kind → (fields user : List ℕ) → Verdict
+verdict_at kind.Confirmation fields user = without_data user fine
+verdict_at kind.Token fields user = without_data user (token_verdict (get_or fields 1 0) (get_or fields 2 0))
+verdict_at (kind.Telegram f) fields user = verdict_of f (header_of fields) user
+verdict_at kind.Unknown fields user = fault 12
 
 abbrev pub bytes_at : Kind → (fields user : List ℕ) → List ℕ
-bytes_at kind.Confirmation fields user = confirmationBytes
-bytes_at kind.Token fields user = tokenBytes (get_or fields 1 0) (get_or fields 2 0)
-bytes_at (kind.Telegram f) fields user = telegramOf f (headerOf fields) user
+bytes_at kind.Confirmation fields user = confirmation_bytes
+bytes_at kind.Token fields user = token_bytes (get_or fields 1 0) (get_or fields 2 0)
+bytes_at (kind.Telegram f) fields user = telegram_of f (header_of fields) user
 bytes_at kind.Unknown fields user = []
 
 abbrev pub answer_of : (fields user : List ℕ) (room : ℕ) → Written
-answer_of fields user room = answerBy (verdictAt (kind_of (get_or fields 0 0)) fields user) (bytes_at (kind_of (get_or fields 0 0)) fields user) room
+answer_of fields user room = answer_by (verdict_at (kind_of (get_or fields 0 0)) fields user) (bytes_at (kind_of (get_or fields 0 0)) fields user) room
 
 abbrev pub held_of : (fields user out : List ℕ) → List ℕ
-held_of fields user out = heldBy (verdictAt (kind_of (get_or fields 0 0)) fields user) (bytes_at (kind_of (get_or fields 0 0)) fields user) out
+held_of fields user out = held_by (verdict_at (kind_of (get_or fields 0 0)) fields user) (bytes_at (kind_of (get_or fields 0 0)) fields user) out
 
 -- ---- what the laws speak of
 
 -- the user data that fields name in the bytes s
-abbrev pub userIn : (s fields : List ℕ) → List ℕ
-userIn s fields = part_of s (get_or fields 6 0) (get_or fields 7 0)
+abbrev pub user_in : (s fields : List ℕ) → List ℕ
+user_in s fields = part_of s (get_or fields 6 0) (get_or fields 7 0)
 
 -- how many of the fields a kind has, from the first on: the kind alone; DA and SA; FC, DSAP and SSAP
 abbrev pub places_of : Kind → ℕ

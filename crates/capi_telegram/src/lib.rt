@@ -1,16 +1,16 @@
 // Telegrams through the C interface, by the same eight fields for reading and writing.
 ghost use Rattle.std.specs.Prelude.{◌≡◌, length};
-ghost use Rattle.octets.specs.Front.{answerBy, heldBy};
+ghost use Rattle.octets.specs.Front.{answer_by, held_by};
 ghost use Rattle.fdl.specs.Reading.{read_of};
-ghost use Rattle.fields.specs.Outcome.{statusOf, countAfter};
-ghost use Rattle.capi_telegram.specs.Telegram.{sapNumber, sapOf, refusalOf, telegramFields, fieldsAfter, headerOf, verdictAt, bytes_at, answer_of, held_of};
+ghost use Rattle.fields.specs.Outcome.{status_of, count_after};
+ghost use Rattle.capi_telegram.specs.Telegram.{sap_number, sap_of, refusal_of, telegram_fields, fields_after, header_of, verdict_at, bytes_at, answer_of, held_of};
 
 use fdl::{Header, Reading, Sap};
 use fields::{Kind, format_number, kind_of, store_count};
 use octets::Written;
 
 fn sap_number(sap: Sap) -> u8
-    ensures { result ≡ sapNumber sap }
+    ensures { result ≡ sap_number sap }
 {
     match sap {
         Sap::Absent => 255,
@@ -19,7 +19,7 @@ fn sap_number(sap: Sap) -> u8
 }
 
 fn sap_of(number: u8) -> Sap
-    ensures { result ≡ sapOf number }
+    ensures { result ≡ sap_of number }
 {
     if number == 255 {
         Sap::Absent
@@ -30,7 +30,7 @@ fn sap_of(number: u8) -> Sap
 
 // Stores eight fields.
 fn put_fields(kind: u8, header: Header, start: u8, len: u8, fields: &mut [u8; 8])
-    ensures { fields.new ≡ telegramFields kind header start len }
+    ensures { fields.new ≡ telegram_fields kind header start len }
 {
     let dsap = header.dsap;
     let ssap = header.ssap;
@@ -49,8 +49,8 @@ fn put_fields(kind: u8, header: Header, start: u8, len: u8, fields: &mut [u8; 8]
 // Reads a telegram into its fields.
 #[unsafe(no_mangle)]
 pub extern "C" fn rabtunex_read_telegram(bytes: &[u8], fields: &mut [u8; 8]) -> u8
-    ensures refusal { result ≡ refusalOf (read_of bytes.now) }
-    ensures fields { fields.new ≡ fieldsAfter (read_of bytes.now) fields.old }
+    ensures refusal { result ≡ refusal_of (read_of bytes.now) }
+    ensures fields { fields.new ≡ fields_after (read_of bytes.now) fields.old }
 {
     let reading = fdl_reader::read(bytes);
     match reading {
@@ -82,7 +82,7 @@ pub extern "C" fn rabtunex_read_telegram(bytes: &[u8], fields: &mut [u8; 8]) -> 
 }
 
 fn header_of(fields: &[u8; 8]) -> Header
-    ensures { result ≡ headerOf fields.now }
+    ensures { result ≡ header_of fields.now }
 {
     Header {
         da: fields[1],
@@ -94,8 +94,8 @@ fn header_of(fields: &[u8; 8]) -> Header
 }
 
 fn write_kind(kind: Kind, fields: &[u8; 8], user: &[u8], out: &mut [u8]) -> Written
-    ensures answer { result ≡ answerBy (verdictAt kind fields.now user.now) (bytes_at kind fields.now user.now) (length out.old) }
-    ensures bytes { out.new ≡ heldBy (verdictAt kind fields.now user.now) (bytes_at kind fields.now user.now) out.old }
+    ensures answer { result ≡ answer_by (verdict_at kind fields.now user.now) (bytes_at kind fields.now user.now) (length out.old) }
+    ensures bytes { out.new ≡ held_by (verdict_at kind fields.now user.now) (bytes_at kind fields.now user.now) out.old }
 {
     match kind {
         Kind::Confirmation => {
@@ -123,9 +123,9 @@ pub extern "C" fn rabtunex_write_telegram(
     out: &mut [u8],
     stored: &mut usize,
 ) -> u8
-    ensures refusal { result ≡ statusOf (answer_of fields.now user.now (length out.old)) }
+    ensures refusal { result ≡ status_of (answer_of fields.now user.now (length out.old)) }
     ensures bytes { out.new ≡ held_of fields.now user.now out.old }
-    ensures count { stored.new ≡ countAfter (answer_of fields.now user.now (length out.old)) stored.old }
+    ensures count { stored.new ≡ count_after (answer_of fields.now user.now (length out.old)) stored.old }
 {
     let written = write_kind(kind_of(fields[0]), fields, user, out);
     store_count(written, stored)

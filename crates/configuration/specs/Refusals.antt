@@ -3,66 +3,66 @@ use Rattle.std.specs.Prelude.{ℕ, zero, suc, ◌≡◌, refl, true, List, [], �
 use Rattle.octets.specs.Choice.{through, alike}
 use Rattle.octets.specs.Front.{Verdict, fine, fault}
 use Rattle.octets.specs.Refusals.{listed, numbered}
-use Rattle.configuration.specs.Fields.{identifierOf}
-use Rattle.configuration.specs.Walk.{Found, one, unfit, specialIn, module_by, moduleIn, Walk, end, bad, more, after, walk_of}
-use Rattle.configuration.specs.Reading.{totalsOf, withinLimit, read_of, withRoom, offsetsOf}
-use Rattle.configuration.specs.Writing.{verdictIn}
+use Rattle.configuration.specs.Fields.{identifier_of}
+use Rattle.configuration.specs.Walk.{Found, one, unfit, special_in, module_by, module_in, Walk, end, bad, more, after, walk_of}
+use Rattle.configuration.specs.Reading.{totals_of, within_limit, read_of, with_room, offsets_of}
+use Rattle.configuration.specs.Writing.{verdict_in}
 use Rattle.configuration.specs.declared.fields.Identifier.{Identifier}
 use Rattle.configuration.specs.declared.fields.Identifier.TheVariants.{General, Special}
 use Rattle.configuration.specs.declared.reading.Reading.{Reading}
 use Rattle.configuration.specs.declared.reading.Reading.TheVariants.{Configuration, Refused}
 
 -- the verdict that a module came to, and all of them
-abbrev foundVerdict : Found → Verdict
-foundVerdict (one m start len) = fine
-foundVerdict (unfit r) = fault r.number
+abbrev found_verdict : Found → Verdict
+found_verdict (one m start len) = fine
+found_verdict (unfit r) = fault r.number
 
-abbrev walkVerdict : Walk → Verdict
-walkVerdict end = fine
-walkVerdict (bad r) = fault r.number
-walkVerdict (more m vendor w) = walkVerdict w
+abbrev walk_verdict : Walk → Verdict
+walk_verdict end = fine
+walk_verdict (bad r) = fault r.number
+walk_verdict (more m vendor w) = walk_verdict w
 
-by-format : (k : Identifier) (r : List ℕ) → numbered (foundVerdict (module_by k r)) ≡ true
-unfolding specialIn listed
-by-format General r = refl
-by-format Special r = simp (through foundVerdict, through numbered, alike)
+by_format : (k : Identifier) (r : List ℕ) → numbered (found_verdict (module_by k r)) ≡ true
+unfolding special_in listed
+by_format General r = refl
+by_format Special r = simp (through found_verdict, through numbered, alike)
 
-module-numbered : (r : List ℕ) → numbered (foundVerdict (moduleIn r)) ≡ true
-unfolding moduleIn
-module-numbered r = by-format (identifierOf (get_or r 0 0)) r
+module_numbered : (r : List ℕ) → numbered (found_verdict (module_in r)) ≡ true
+unfolding module_in
+module_numbered r = by_format (identifier_of (get_or r 0 0)) r
 
-after-numbered : (f : Found) (r : List ℕ) (rest : ℕ → Walk) → numbered (foundVerdict f) ≡ true
-    → ((k : ℕ) → numbered (walkVerdict (rest k)) ≡ true) → numbered (walkVerdict (after f r rest)) ≡ true
-after-numbered (one m start len) r rest h all = all _
-after-numbered (unfit k) r rest h all = h
+after_numbered : (f : Found) (r : List ℕ) (rest : ℕ → Walk) → numbered (found_verdict f) ≡ true
+    → ((k : ℕ) → numbered (walk_verdict (rest k)) ≡ true) → numbered (walk_verdict (after f r rest)) ≡ true
+after_numbered (one m start len) r rest h all = all _
+after_numbered (unfit k) r rest h all = h
 
-walk-numbered : (s : List ℕ) (skip : ℕ) → numbered (walkVerdict (walk_of s skip)) ≡ true
+walk_numbered : (s : List ℕ) (skip : ℕ) → numbered (walk_verdict (walk_of s skip)) ≡ true
 unfolding walk_of
-walk-numbered [] skip = refl
-walk-numbered (x ∷ xs) zero = after-numbered (moduleIn (x ∷ xs)) (x ∷ xs) (walk_of xs) (module-numbered (x ∷ xs)) (walk-numbered xs)
-walk-numbered (x ∷ xs) (suc k) = walk-numbered xs k
+walk_numbered [] skip = refl
+walk_numbered (x ∷ xs) zero = after_numbered (module_in (x ∷ xs)) (x ∷ xs) (walk_of xs) (module_numbered (x ∷ xs)) (walk_numbered xs)
+walk_numbered (x ∷ xs) (suc k) = walk_numbered xs k
 
-totals-numbered : (n i o : ℕ) (w : Walk) → numbered (walkVerdict w) ≡ true → numbered (verdictIn (totalsOf n i o w)) ≡ true
-unfolding totalsOf
-totals-numbered n i o end h = refl
-totals-numbered n i o (bad r) h = h
-totals-numbered n i o (more m vendor w) h = totals-numbered _ _ _ w h
+totals_numbered : (n i o : ℕ) (w : Walk) → numbered (walk_verdict w) ≡ true → numbered (verdict_in (totals_of n i o w)) ≡ true
+unfolding totals_of
+totals_numbered n i o end h = refl
+totals_numbered n i o (bad r) h = h
+totals_numbered n i o (more m vendor w) h = totals_numbered _ _ _ w h
 
-limit-numbered : (r : Reading) → numbered (verdictIn r) ≡ true → numbered (verdictIn (withinLimit r)) ≡ true
-unfolding withinLimit listed
-limit-numbered (Configuration n i o) h = simp (through verdictIn, through numbered, alike)
-limit-numbered (Refused r) h = h
+limit_numbered : (r : Reading) → numbered (verdict_in r) ≡ true → numbered (verdict_in (within_limit r)) ≡ true
+unfolding within_limit listed
+limit_numbered (Configuration n i o) h = simp (through verdict_in, through numbered, alike)
+limit_numbered (Refused r) h = h
 
-pub reading-numbered : (s : List ℕ) → numbered (verdictIn (read_of s)) ≡ true
+pub reading_numbered : (s : List ℕ) → numbered (verdict_in (read_of s)) ≡ true
 unfolding read_of listed
-reading-numbered s =
-    let h = limit-numbered (totalsOf 0 0 0 (walk_of s 0)) (totals-numbered 0 0 0 (walk_of s 0) (walk-numbered s 0)) in
-    simp (through verdictIn, through numbered, alike, h)
+reading_numbered s =
+    let h = limit_numbered (totals_of 0 0 0 (walk_of s 0)) (totals_numbered 0 0 0 (walk_of s 0) (walk_numbered s 0)) in
+    simp (through verdict_in, through numbered, alike, h)
 
-room-numbered : (a b : ℕ) (r : Reading) → numbered (verdictIn r) ≡ true → numbered (verdictIn (withRoom a b r)) ≡ true
-unfolding withRoom listed
-room-numbered a b (Configuration n i o) h = simp (through verdictIn, through numbered, alike)
-room-numbered a b (Refused r) h = h
+room_numbered : (a b : ℕ) (r : Reading) → numbered (verdict_in r) ≡ true → numbered (verdict_in (with_room a b r)) ≡ true
+unfolding with_room listed
+room_numbered a b (Configuration n i o) h = simp (through verdict_in, through numbered, alike)
+room_numbered a b (Refused r) h = h
 
-pub offsets-numbered : (s : List ℕ) (a b : ℕ) → numbered (verdictIn (offsetsOf s a b)) ≡ true
-offsets-numbered s a b = room-numbered a b (read_of s) (reading-numbered s)
+pub offsets_numbered : (s : List ℕ) (a b : ℕ) → numbered (verdict_in (offsets_of s a b)) ≡ true
+offsets_numbered s a b = room_numbered a b (read_of s) (reading_numbered s)

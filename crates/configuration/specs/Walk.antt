@@ -4,7 +4,7 @@ use Rattle.std.specs.Prelude.{List, [], ◌∷◌, ℕ, zero, suc, ◌+◌, ◌-
 use Rattle.octets.specs.Choice.{pick}
 use Rattle.octets.specs.Part.{part_of}
 use Rattle.octets.specs.declared.Refusal.{Refusal}
-use Rattle.configuration.specs.Fields.{identifierOf, inputBit, outputBit, generalOf, specialOf}
+use Rattle.configuration.specs.Fields.{identifier_of, input_bit, output_bit, general_of, special_of}
 use Rattle.configuration.specs.declared.fields.Identifier.{Identifier}
 use Rattle.configuration.specs.declared.fields.Identifier.TheVariants.{General, Special}
 use Rattle.configuration.specs.declared.fields.Module.{Module}
@@ -23,8 +23,8 @@ abbrev pub faulty : ℕ → Found
 faulty k = unfit (record { number = k })
 
 -- how many bytes stand before the vendor bytes: the identifier x and its length bytes
-abbrev pub frontOf : (x : ℕ) → ℕ
-frontOf x = 1 + x / outputBit Special % 2 + x / inputBit Special % 2
+abbrev pub front_of : (x : ℕ) → ℕ
+front_of x = 1 + x / output_bit Special % 2 + x / input_bit Special % 2
 
 -- the vendor count that is refused
 abbrev pub barred : ℕ
@@ -32,29 +32,29 @@ barred = 15
 
 -- the special format, of which `left` bytes are there: output's length byte y comes first, then input's z, then as many
 -- vendor bytes as the low nibble
-abbrev pub specialBy : (x left y z : ℕ) → Found
-specialBy x left y z =
+abbrev pub special_by : (x left y z : ℕ) → Found
+special_by x left y z =
     pick (eqb (x % 16) barred) (faulty 26)
-    (pick (ltb left (frontOf x + x % 16)) (faulty 24) (one (specialOf x y z) (frontOf x) (x % 16)))
+    (pick (ltb left (front_of x + x % 16)) (faulty 24) (one (special_of x y z) (front_of x) (x % 16)))
 
-unfoldable pub specialIn : List ℕ → Found
-specialIn r = specialBy (get_or r 0 0) (length r) (get_or r 1 0) (get_or r (1 + get_or r 0 0 / outputBit Special % 2) 0)
+unfoldable pub special_in : List ℕ → Found
+special_in r = special_by (get_or r 0 0) (length r) (get_or r 1 0) (get_or r (1 + get_or r 0 0 / output_bit Special % 2) 0)
 
 -- by the format of the identifier; the general one is one byte
 abbrev pub module_by : Identifier → List ℕ → Found
-module_by General r = one (generalOf (get_or r 0 0)) 1 0
-module_by Special r = specialIn r
+module_by General r = one (general_of (get_or r 0 0)) 1 0
+module_by Special r = special_in r
 
-unfoldable pub moduleIn : List ℕ → Found
-moduleIn r = module_by (identifierOf (get_or r 0 0)) r
+unfoldable pub module_in : List ℕ → Found
+module_in r = module_by (identifier_of (get_or r 0 0)) r
 
 -- ---- one step of a walk
 
 abbrev pub position : ℕ → Position
 position k = record { at = k }
 
-abbrev pub firstPosition : Position
-firstPosition = position 0
+abbrev pub first_position : Position
+first_position = position 0
 
 -- what was found at a place, by its place in the whole
 abbrev pub step_of : (at : ℕ) → Found → Step
@@ -64,7 +64,7 @@ step_of at (unfit r) = step.Refused r
 unfoldable pub next_of : List ℕ → (at : ℕ) → Step
 next_of s at =
     pick (ltb (length s) at) (step.Refused (record { number = 12 }))
-    (pick (eqb at (length s)) step.End (step_of at (moduleIn (drop at s))))
+    (pick (eqb at (length s)) step.End (step_of at (module_in (drop at s))))
 
 -- ---- all modules: they end well or badly
 
@@ -81,5 +81,5 @@ after (unfit k) r rest = bad k
 -- of the bytes, the first `skip` belong to the module before
 unfoldable pub walk_of : List ℕ → (skip : ℕ) → Walk
 walk_of [] skip = end
-walk_of (x ∷ xs) zero = after (moduleIn (x ∷ xs)) (x ∷ xs) (walk_of xs)
+walk_of (x ∷ xs) zero = after (module_in (x ∷ xs)) (x ∷ xs) (walk_of xs)
 walk_of (x ∷ xs) (suc k) = walk_of xs k

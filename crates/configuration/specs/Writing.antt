@@ -4,7 +4,7 @@ use Rattle.std.specs.Prelude.{Bool, true, false, not, List, [], ◌∷◌, ◌++
 use Rattle.std.specs.Bool.{beq}
 use Rattle.octets.specs.Choice.{pick, ◌and◌}
 use Rattle.octets.specs.Front.{Verdict, fine, fault}
-use Rattle.configuration.specs.Fields.{inputBit, outputBit, mostUnits, wordsBit, consistencyBit}
+use Rattle.configuration.specs.Fields.{input_bit, output_bit, most_units, words_bit, consistency_bit}
 use Rattle.configuration.specs.Reading.{read_of}
 use Rattle.configuration.specs.declared.fields.Side.{Side}
 use Rattle.configuration.specs.declared.fields.Side.TheVariants.{Absent, Present}
@@ -25,87 +25,87 @@ presence Absent = 0
 presence (Present n w c) = 1
 
 -- the units less 1, and the bits for words and for consistency
-abbrev pub sideByte : Side → ℕ
-sideByte Absent = 0
-sideByte (Present n w c) = n - 1 + wordsBit * bit w + consistencyBit * bit c
+abbrev pub side_byte : Side → ℕ
+side_byte Absent = 0
+side_byte (Present n w c) = n - 1 + words_bit * bit w + consistency_bit * bit c
 
 -- how many units there may be
-abbrev pub goodUnits : (most n : ℕ) → Bool
-goodUnits most n = not (eqb n 0) and leb n most
+abbrev pub good_units : (most n : ℕ) → Bool
+good_units most n = not (eqb n 0) and leb n most
 
-abbrev pub goodSide : (most : ℕ) → Side → Bool
-goodSide most Absent = true
-goodSide most (Present n w c) = goodUnits most n
+abbrev pub good_side : (most : ℕ) → Side → Bool
+good_side most Absent = true
+good_side most (Present n w c) = good_units most n
 
 -- ---- the general format
 
 -- it has one side, or two that are alike
-unfoldable pub goodGeneral : (input output : Side) → Bool
-goodGeneral Absent Absent = false
-goodGeneral Absent (Present n w c) = goodUnits (mostUnits General) n
-goodGeneral (Present n w c) Absent = goodUnits (mostUnits General) n
-goodGeneral (Present n w c) (Present k x d) = eqb k n and beq x w and beq d c and goodUnits (mostUnits General) n
+unfoldable pub good_general : (input output : Side) → Bool
+good_general Absent Absent = false
+good_general Absent (Present n w c) = good_units (most_units General) n
+good_general (Present n w c) Absent = good_units (most_units General) n
+good_general (Present n w c) (Present k x d) = eqb k n and beq x w and beq d c and good_units (most_units General) n
 
-abbrev pub eitherSide : (input output : Side) → Side
-eitherSide Absent o = o
-eitherSide (Present n w c) o = Present n w c
+abbrev pub either_side : (input output : Side) → Side
+either_side Absent o = o
+either_side (Present n w c) o = Present n w c
 
-abbrev pub generalByte : (input output : Side) → ℕ
-generalByte i o = inputBit General * presence i + outputBit General * presence o + sideByte (eitherSide i o)
+abbrev pub general_byte : (input output : Side) → ℕ
+general_byte i o = input_bit General * presence i + output_bit General * presence o + side_byte (either_side i o)
 
 -- it has no vendor bytes: any that are given come before its byte's fault
-unfoldable pub generalVerdict : (input output : Side) (vendor : List ℕ) → Verdict
-generalVerdict i o vendor = pick (ltb 0 (length vendor)) (fault 20) (pick (not (goodGeneral i o)) (fault 21) fine)
+unfoldable pub general_verdict : (input output : Side) (vendor : List ℕ) → Verdict
+general_verdict i o vendor = pick (ltb 0 (length vendor)) (fault 20) (pick (not (good_general i o)) (fault 21) fine)
 
 -- ---- the special format
 
-abbrev pub sideBytes : Side → List ℕ
-sideBytes Absent = []
-sideBytes (Present n w c) = sideByte (Present n w c) ∷ []
+abbrev pub side_bytes : Side → List ℕ
+side_bytes Absent = []
+side_bytes (Present n w c) = side_byte (Present n w c) ∷ []
 
-abbrev pub specialByte : (input output : Side) (vendor : List ℕ) → ℕ
-specialByte i o vendor = outputBit Special * presence o + inputBit Special * presence i + length vendor
+abbrev pub special_byte : (input output : Side) (vendor : List ℕ) → ℕ
+special_byte i o vendor = output_bit Special * presence o + input_bit Special * presence i + length vendor
 
 -- the identifier, output's length byte, input's, the vendor bytes
-unfoldable pub specialBytes : (input output : Side) (vendor : List ℕ) → List ℕ
-specialBytes i o vendor = specialByte i o vendor ∷ (sideBytes o ++ (sideBytes i ++ vendor))
+unfoldable pub special_bytes : (input output : Side) (vendor : List ℕ) → List ℕ
+special_bytes i o vendor = special_byte i o vendor ∷ (side_bytes o ++ (side_bytes i ++ vendor))
 
 -- the vendor count fits its four bits, and is not 15
-unfoldable pub specialVerdict : (input output : Side) (vendor : List ℕ) → Verdict
-specialVerdict i o vendor =
+unfoldable pub special_verdict : (input output : Side) (vendor : List ℕ) → Verdict
+special_verdict i o vendor =
     pick (ltb 15 (length vendor)) (fault 21)
     (pick (eqb (length vendor) 15) (fault 26)
-    (pick (not (goodSide (mostUnits Special) o)) (fault 21) (pick (not (goodSide (mostUnits Special) i)) (fault 21) fine)))
+    (pick (not (good_side (most_units Special) o)) (fault 21) (pick (not (good_side (most_units Special) i)) (fault 21) fine)))
 
 -- ---- a module
 
-abbrev pub verdictBy : Identifier → (input output : Side) (vendor : List ℕ) → Verdict
-verdictBy General i o vendor = generalVerdict i o vendor
-verdictBy Special i o vendor = specialVerdict i o vendor
+abbrev pub verdict_by : Identifier → (input output : Side) (vendor : List ℕ) → Verdict
+verdict_by General i o vendor = general_verdict i o vendor
+verdict_by Special i o vendor = special_verdict i o vendor
 
-abbrev pub moduleVerdict : Module → (vendor : List ℕ) → Verdict
-moduleVerdict m vendor = verdictBy m.identifier m.input m.output vendor
+abbrev pub module_verdict : Module → (vendor : List ℕ) → Verdict
+module_verdict m vendor = verdict_by m.identifier m.input m.output vendor
 
-abbrev pub bytesBy : Identifier → (input output : Side) (vendor : List ℕ) → List ℕ
-bytesBy General i o vendor = generalByte i o ∷ []
-bytesBy Special i o vendor = specialBytes i o vendor
+abbrev pub bytes_by : Identifier → (input output : Side) (vendor : List ℕ) → List ℕ
+bytes_by General i o vendor = general_byte i o ∷ []
+bytes_by Special i o vendor = special_bytes i o vendor
 
-abbrev pub moduleBytes : Module → (vendor : List ℕ) → List ℕ
-moduleBytes m vendor = bytesBy m.identifier m.input m.output vendor
+abbrev pub module_bytes : Module → (vendor : List ℕ) → List ℕ
+module_bytes m vendor = bytes_by m.identifier m.input m.output vendor
 
 -- where the vendor bytes begin
-abbrev pub vendorBy : Identifier → (input output : Side) → ℕ
-vendorBy General i o = 1
-vendorBy Special i o = 1 + presence o + presence i
+abbrev pub vendor_by : Identifier → (input output : Side) → ℕ
+vendor_by General i o = 1
+vendor_by Special i o = 1 + presence o + presence i
 
-abbrev pub vendorStart : Module → ℕ
-vendorStart m = vendorBy m.identifier m.input m.output
+abbrev pub vendor_start : Module → ℕ
+vendor_start m = vendor_by m.identifier m.input m.output
 
 -- ---- a whole configuration: what reading would refuse is not written
 
-abbrev pub verdictIn : Reading → Verdict
-verdictIn (Configuration n i o) = fine
-verdictIn (Refused r) = fault r.number
+abbrev pub verdict_in : Reading → Verdict
+verdict_in (Configuration n i o) = fine
+verdict_in (Refused r) = fault r.number
 
-abbrev pub verdictOf : (modules : List ℕ) → Verdict
-verdictOf s = verdictIn (read_of s)
+abbrev pub verdict_of : (modules : List ℕ) → Verdict
+verdict_of s = verdict_in (read_of s)

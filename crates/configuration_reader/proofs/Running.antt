@@ -7,16 +7,16 @@ use native.Mathlib.Numerals.{add-one}
 use lib.ListN.{length, drop, set, length-set}
 use lib.Seq.{sets}
 use Rattle.configuration.specs.Walk.{walk_of}
-use Rattle.configuration.specs.Reading.{offsetsBy}
+use Rattle.configuration.specs.Reading.{offsets_by}
 use Rattle.configuration.specs.Contents.{Stands}
 use Rattle.configuration.specs.declared.fields.Module.{Module}
 
 module _ (side : Module → ℕ) (s before : List ℕ) where
   abbrev pub all : List ℕ
-  all = offsetsBy side 0 (walk_of s 0)
+  all = offsets_by side 0 (walk_of s 0)
 
   abbrev pub left : (at a : ℕ) → List ℕ
-  left at a = offsetsBy side a (walk_of (drop at s) 0)
+  left at a = offsets_by side a (walk_of (drop at s) 0)
 
   -- n offsets are stored, as far as there is room; the modules from `at` on are left, and those before have a bytes
   pub record Running (now : List ℕ) (at n a : ℕ) : Type 0 where
@@ -31,8 +31,8 @@ module _ (side : Module → ℕ) (s before : List ℕ) where
     -- at a module: its offset is the first of what is left
     module _ {m : Module} {start len next : ℕ} (h : Stands s at m start len next) where
       opened : left at a ≡ a ∷ left next (a + side m)
-      unfolding offsetsBy
-      opened = ap (offsetsBy side a) h.walk
+      unfolding offsets_by
+      opened = ap (offsets_by side a) h.walk
 
       pub goes :
           {later : List ℕ} {b : ℕ} → side m ≤ 128 → later ≡ set now n a → b ≡ side m → Running later next (n + 1) (a + b)

@@ -2,7 +2,7 @@
 ghost use Rattle.std.specs.Prelude.{◌≡◌, ◌≤◌, length, set};
 ghost use Rattle.std.proofs.lemmas.List.Edits.{sets};
 ghost use Rattle.configuration.specs.Walk.{walk_of};
-ghost use Rattle.configuration.specs.Reading.{totalsOf, inputOffsets, outputOffsets};
+ghost use Rattle.configuration.specs.Reading.{totals_of, input_offsets, output_offsets};
 
 use configuration::{Position, Reading, Step, side_length};
 use configuration_walk::next;
@@ -21,9 +21,9 @@ fn put(list: &mut [u16], n: usize, offset: u16)
 // into which it is compiled. The bound keeps the sums small.
 pub(crate) fn gather(s: &[u8], inputs: &mut [u16], outputs: &mut [u16]) -> Reading
     requires { length s.now ≤ 244 }
-    ensures answer { result ≡ totalsOf 0 0 0 (walk_of s.now 0) }
-    ensures inputs { inputs.new ≡ sets inputs.old 0 (inputOffsets s.now) }
-    ensures outputs { outputs.new ≡ sets outputs.old 0 (outputOffsets s.now) }
+    ensures answer { result ≡ totals_of 0 0 0 (walk_of s.now 0) }
+    ensures inputs { inputs.new ≡ sets inputs.old 0 (input_offsets s.now) }
+    ensures outputs { outputs.new ≡ sets outputs.old 0 (output_offsets s.now) }
 {
     let mut at = 0;
     let mut n = 0;

@@ -1,14 +1,14 @@
 // A walk over the modules of PROFIBUS DP configuration data, one at a time.
 ghost use Rattle.std.specs.Prelude.{◌≡◌, ◌+◌, ◌≤◌, ◌<◌, length, get_or, drop};
-ghost use Rattle.configuration.specs.Fields.{sideIf, generalOf, lengthByte};
-ghost use Rattle.configuration.specs.Walk.{firstPosition, step_of, specialIn, next_of};
+ghost use Rattle.configuration.specs.Fields.{side_if, general_of, length_byte};
+ghost use Rattle.configuration.specs.Walk.{first_position, step_of, special_in, next_of};
 
 use configuration::{Identifier, Module, Position, Side, Step};
 use octets::Refusal;
 
 // The side that byte x describes, with its number of units, where a bit says that the module has it.
 fn side_if(bit: u8, units: u8, x: u8) -> Side
-    ensures { result ≡ sideIf bit units x }
+    ensures { result ≡ side_if bit units x }
 {
     if bit == 1 {
         return Side::Present {
@@ -22,7 +22,7 @@ fn side_if(bit: u8, units: u8, x: u8) -> Side
 
 // The general format: one byte says all.
 fn general(x: u8) -> Module
-    ensures { result ≡ generalOf x }
+    ensures { result ≡ general_of x }
 {
     let units = x % 16 + 1;
     let input = side_if(x / 16 % 2, units, x);
@@ -37,7 +37,7 @@ fn general(x: u8) -> Module
 // The side of the length byte at a place, where a bit says that there is one.
 fn length_byte(s: &[u8], at: usize, bit: u8) -> Side
     requires { at + bit ≤ length s.now }
-    ensures { result ≡ lengthByte bit (get_or s.now at 0) }
+    ensures { result ≡ length_byte bit (get_or s.now at 0) }
 {
     if bit == 0 {
         return Side::Absent;
@@ -49,7 +49,7 @@ fn length_byte(s: &[u8], at: usize, bit: u8) -> Side
 // The special format: length bytes, output's before input's, and vendor bytes.
 fn special(s: &[u8], at: usize) -> Step
     requires { at < length s.now }
-    ensures { result ≡ step_of at (specialIn (drop at s.now)) }
+    ensures { result ≡ step_of at (special_in (drop at s.now)) }
 {
     let x = s[at];
     let vendor = x % 16;
@@ -82,7 +82,7 @@ fn special(s: &[u8], at: usize) -> Step
 
 // Where the first module begins.
 pub fn first() -> Position
-    ensures { result ≡ firstPosition }
+    ensures { result ≡ first_position }
 {
     Position { at: 0 }
 }

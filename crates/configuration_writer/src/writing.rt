@@ -1,7 +1,7 @@
 // Writing a module from its fields, and a whole configuration from the bytes of its modules.
 ghost use Rattle.std.specs.Prelude.{◌≡◌, true, [], ◌∷◌, ◌++◌, ◌≤◌, length};
-ghost use Rattle.octets.specs.Front.{AtFront, answerBy, heldBy};
-ghost use Rattle.configuration.specs.Writing.{presence, sideByte, goodUnits, goodSide, goodGeneral, eitherSide, sideBytes, generalByte, generalVerdict, specialBytes, specialVerdict, moduleVerdict, moduleBytes, verdictOf};
+ghost use Rattle.octets.specs.Front.{AtFront, answer_by, held_by};
+ghost use Rattle.configuration.specs.Writing.{presence, side_byte, good_units, good_side, good_general, either_side, side_bytes, general_byte, general_verdict, special_bytes, special_verdict, module_verdict, module_bytes, verdict_of};
 
 use configuration::{Identifier, Module, Reading, Side};
 use configuration_reader::read;
@@ -22,7 +22,7 @@ fn present(side: Side) -> u8
 }
 
 fn good_units(most: u8, units: u8) -> bool
-    ensures { result ≡ goodUnits most units }
+    ensures { result ≡ good_units most units }
 {
     if units == 0 {
         return false;
@@ -31,7 +31,7 @@ fn good_units(most: u8, units: u8) -> bool
 }
 
 fn good_side(most: u8, side: Side) -> bool
-    ensures { result ≡ goodSide most side }
+    ensures { result ≡ good_side most side }
 {
     match side {
         Side::Absent => true,
@@ -45,7 +45,7 @@ fn good_side(most: u8, side: Side) -> bool
 
 // Whether one byte can say both sides: there is one, or two that are alike.
 fn good_general(input: Side, output: Side) -> bool
-    ensures { result ≡ goodGeneral input output }
+    ensures { result ≡ good_general input output }
 {
     match input {
         Side::Absent => match output {
@@ -84,8 +84,8 @@ fn good_general(input: Side, output: Side) -> bool
 
 // The bits that the length of a side takes in its byte.
 fn side_byte(side: Side) -> u8
-    requires { goodSide 64 side ≡ true }
-    ensures { result ≡ sideByte side }
+    requires { good_side 64 side ≡ true }
+    ensures { result ≡ side_byte side }
 {
     match side {
         Side::Absent => 0,
@@ -99,7 +99,7 @@ fn side_byte(side: Side) -> u8
 
 // The side that is there, input's where both are.
 fn either(input: Side, output: Side) -> Side
-    ensures { result ≡ eitherSide input output }
+    ensures { result ≡ either_side input output }
 {
     match input {
         Side::Absent => output,
@@ -112,16 +112,16 @@ fn either(input: Side, output: Side) -> Side
 }
 
 fn general_byte(input: Side, output: Side) -> u8
-    requires { goodGeneral input output ≡ true }
-    ensures { result ≡ generalByte input output }
+    requires { good_general input output ≡ true }
+    ensures { result ≡ general_byte input output }
 {
     let side = either(input, output);
     16 * present(input) + 32 * present(output) + side_byte(side)
 }
 
 fn write_general(input: Side, output: Side, vendor: &[u8], out: &mut [u8]) -> Written
-    ensures answer { result ≡ answerBy (generalVerdict input output vendor.now) (generalByte input output ∷ []) (length out.old) }
-    ensures bytes { out.new ≡ heldBy (generalVerdict input output vendor.now) (generalByte input output ∷ []) out.old }
+    ensures answer { result ≡ answer_by (general_verdict input output vendor.now) (general_byte input output ∷ []) (length out.old) }
+    ensures bytes { out.new ≡ held_by (general_verdict input output vendor.now) (general_byte input output ∷ []) out.old }
 {
     if 0 < vendor.len() {
         return Written::Refused(20);
@@ -137,8 +137,8 @@ fn write_general(input: Side, output: Side, vendor: &[u8], out: &mut [u8]) -> Wr
 }
 
 fn put_side(side: Side, out: &mut [u8]) -> usize
-    requires { (goodSide 64 side ≡ true) × (length (sideBytes side) ≤ length out.old) }
-    ensures { AtFront (sideBytes side) out.old out.new result }
+    requires { (good_side 64 side ≡ true) × (length (side_bytes side) ≤ length out.old) }
+    ensures { AtFront (side_bytes side) out.old out.new result }
 {
     match side {
         Side::Absent => 0,
@@ -155,8 +155,8 @@ fn put_side(side: Side, out: &mut [u8]) -> usize
 
 // Stores input's length byte and the vendor bytes.
 fn put_input(input: Side, vendor: &[u8], out: &mut [u8]) -> usize
-    requires { (goodSide 64 input ≡ true) × (length (sideBytes input ++ vendor.now) ≤ length out.old) }
-    ensures { AtFront (sideBytes input ++ vendor.now) out.old out.new result }
+    requires { (good_side 64 input ≡ true) × (length (side_bytes input ++ vendor.now) ≤ length out.old) }
+    ensures { AtFront (side_bytes input ++ vendor.now) out.old out.new result }
 {
     let n = put_side(input, out);
     octets::store_behind(n, vendor, out)
@@ -164,8 +164,8 @@ fn put_input(input: Side, vendor: &[u8], out: &mut [u8]) -> usize
 
 // Stores output's length byte and what follows it.
 fn put_output(output: Side, input: Side, vendor: &[u8], out: &mut [u8]) -> usize
-    requires { (goodSide 64 output ≡ true) × (goodSide 64 input ≡ true) × (length (sideBytes output ++ (sideBytes input ++ vendor.now)) ≤ length out.old) }
-    ensures { AtFront (sideBytes output ++ (sideBytes input ++ vendor.now)) out.old out.new result }
+    requires { (good_side 64 output ≡ true) × (good_side 64 input ≡ true) × (length (side_bytes output ++ (side_bytes input ++ vendor.now)) ≤ length out.old) }
+    ensures { AtFront (side_bytes output ++ (side_bytes input ++ vendor.now)) out.old out.new result }
 {
     let n = put_side(output, out);
     n + put_input(input, vendor, &mut out[n..])
@@ -173,16 +173,16 @@ fn put_output(output: Side, input: Side, vendor: &[u8], out: &mut [u8]) -> usize
 
 // Stores a whole module of the special format.
 fn put_special(input: Side, output: Side, vendor: &[u8], out: &mut [u8]) -> usize
-    requires { (goodSide 64 output ≡ true) × (goodSide 64 input ≡ true) × (length vendor.now ≤ 14) × (length (specialBytes input output vendor.now) ≤ length out.old) }
-    ensures { AtFront (specialBytes input output vendor.now) out.old out.new result }
+    requires { (good_side 64 output ≡ true) × (good_side 64 input ≡ true) × (length vendor.now ≤ 14) × (length (special_bytes input output vendor.now) ≤ length out.old) }
+    ensures { AtFront (special_bytes input output vendor.now) out.old out.new result }
 {
     out[0] = 128 * present(output) + 64 * present(input) + vendor.len() as u8;
     1 + put_output(output, input, vendor, &mut out[1..])
 }
 
 fn write_special(input: Side, output: Side, vendor: &[u8], out: &mut [u8]) -> Written
-    ensures answer { result ≡ answerBy (specialVerdict input output vendor.now) (specialBytes input output vendor.now) (length out.old) }
-    ensures bytes { out.new ≡ heldBy (specialVerdict input output vendor.now) (specialBytes input output vendor.now) out.old }
+    ensures answer { result ≡ answer_by (special_verdict input output vendor.now) (special_bytes input output vendor.now) (length out.old) }
+    ensures bytes { out.new ≡ held_by (special_verdict input output vendor.now) (special_bytes input output vendor.now) out.old }
 {
     if 15 < vendor.len() {
         return Written::Refused(21);
@@ -205,8 +205,8 @@ fn write_special(input: Side, output: Side, vendor: &[u8], out: &mut [u8]) -> Wr
 
 // Writes one module from its fields and vendor bytes.
 pub fn write_module(fields: Module, vendor: &[u8], out: &mut [u8]) -> Written
-    ensures answer { result ≡ answerBy (moduleVerdict fields vendor.now) (moduleBytes fields vendor.now) (length out.old) }
-    ensures bytes { out.new ≡ heldBy (moduleVerdict fields vendor.now) (moduleBytes fields vendor.now) out.old }
+    ensures answer { result ≡ answer_by (module_verdict fields vendor.now) (module_bytes fields vendor.now) (length out.old) }
+    ensures bytes { out.new ≡ held_by (module_verdict fields vendor.now) (module_bytes fields vendor.now) out.old }
 {
     let identifier = fields.identifier;
     let input = fields.input;
@@ -220,8 +220,8 @@ pub fn write_module(fields: Module, vendor: &[u8], out: &mut [u8]) -> Written
 // Writes a whole configuration from its modules' bytes, one after the other: what reading would refuse
 // is refused with the same number.
 pub fn write(modules: &[u8], out: &mut [u8]) -> Written
-    ensures answer { result ≡ answerBy (verdictOf modules.now) modules.now (length out.old) }
-    ensures bytes { out.new ≡ heldBy (verdictOf modules.now) modules.now out.old }
+    ensures answer { result ≡ answer_by (verdict_of modules.now) modules.now (length out.old) }
+    ensures bytes { out.new ≡ held_by (verdict_of modules.now) modules.now out.old }
 {
     let reading = read(modules);
     match reading {

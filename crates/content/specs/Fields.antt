@@ -6,7 +6,7 @@ use Rattle.acyclic.specs.declared.answers.Answer.TheVariants as answer
 use Rattle.acyclic.specs.declared.calls.Call.{Call}
 use Rattle.acyclic.specs.declared.calls.Call.TheVariants as call
 use Rattle.parameters.specs.Fields.{mode_of}
-use Rattle.parameters.specs.Writing.{userStart}
+use Rattle.parameters.specs.Writing.{user_start}
 use Rattle.access.specs.declared.table.Service.{Service}
 use Rattle.access.specs.declared.table.Service.TheVariants as service
 use Rattle.content.specs.declared.fields.Content.{Content}
@@ -15,55 +15,55 @@ use Rattle.content.specs.declared.fields.Content.TheVariants as content
 -- ---- the service
 
 -- the service of a content
-abbrev pub serviceOf : Content → Service
-serviceOf content.DataExchange = service.DataExchange
-serviceOf (content.Dpv1Call c) = service.Dpv1
-serviceOf (content.Dpv1Answer x) = service.Dpv1
-serviceOf content.ExtUserPrm = service.ExtUserPrm
-serviceOf (content.SetSlaveAdr f) = service.SetSlaveAdr
-serviceOf content.RdInp = service.RdInp
-serviceOf content.RdOutp = service.RdOutp
-serviceOf (content.GlobalControl f) = service.GlobalControl
-serviceOf content.GetCfg = service.GetCfg
-serviceOf content.SlaveDiagCall = service.SlaveDiag
-serviceOf (content.SlaveDiag h) = service.SlaveDiag
-serviceOf (content.SetPrm f) = service.SetPrm
-serviceOf content.ChkCfg = service.ChkCfg
+abbrev pub service_of : Content → Service
+service_of content.DataExchange = service.DataExchange
+service_of (content.Dpv1Call c) = service.Dpv1
+service_of (content.Dpv1Answer x) = service.Dpv1
+service_of content.ExtUserPrm = service.ExtUserPrm
+service_of (content.SetSlaveAdr f) = service.SetSlaveAdr
+service_of content.RdInp = service.RdInp
+service_of content.RdOutp = service.RdOutp
+service_of (content.GlobalControl f) = service.GlobalControl
+service_of content.GetCfg = service.GetCfg
+service_of content.SlaveDiagCall = service.SlaveDiag
+service_of (content.SlaveDiag h) = service.SlaveDiag
+service_of (content.SetPrm f) = service.SetPrm
+service_of content.ChkCfg = service.ChkCfg
 
 -- ---- how many bytes the fields take, before the part
 
 -- a poll is empty, idle is its number alone
-abbrev pub callLength : Call → ℕ
-callLength call.Poll = 0
-callLength (call.Read slot index len) = 4
-callLength (call.Write slot index) = 4
-callLength (call.AlarmAck slot alarm specifier) = 4
-callLength call.Idle = 1
-callLength (call.Transport slot index) = 4
+abbrev pub call_length : Call → ℕ
+call_length call.Poll = 0
+call_length (call.Read slot index len) = 4
+call_length (call.Write slot index) = 4
+call_length (call.AlarmAck slot alarm specifier) = 4
+call_length call.Idle = 1
+call_length (call.Transport slot index) = 4
 
-abbrev pub answerLength : Answer → ℕ
-answerLength (answer.Read slot index) = 4
-answerLength (answer.Write slot index len) = 4
-answerLength (answer.AlarmAck slot alarm specifier) = 4
-answerLength answer.Idle = 1
-answerLength (answer.Transport slot index) = 4
-answerLength (answer.Negative f decode code1 code2) = 4
+abbrev pub answer_length : Answer → ℕ
+answer_length (answer.Read slot index) = 4
+answer_length (answer.Write slot index len) = 4
+answer_length (answer.AlarmAck slot alarm specifier) = 4
+answer_length answer.Idle = 1
+answer_length (answer.Transport slot index) = 4
+answer_length (answer.Negative f decode code1 code2) = 4
 
 -- plain bytes, a configuration and an empty call have no fields
-abbrev pub fixedLength : Content → ℕ
-fixedLength content.DataExchange = 0
-fixedLength (content.Dpv1Call c) = callLength c
-fixedLength (content.Dpv1Answer x) = answerLength x
-fixedLength content.ExtUserPrm = 0
-fixedLength (content.SetSlaveAdr f) = 4
-fixedLength content.RdInp = 0
-fixedLength content.RdOutp = 0
-fixedLength (content.GlobalControl f) = 2
-fixedLength content.GetCfg = 0
-fixedLength content.SlaveDiagCall = 0
-fixedLength (content.SlaveDiag h) = 6
-fixedLength (content.SetPrm f) = userStart f
-fixedLength content.ChkCfg = 0
+abbrev pub fixed_length : Content → ℕ
+fixed_length content.DataExchange = 0
+fixed_length (content.Dpv1Call c) = call_length c
+fixed_length (content.Dpv1Answer x) = answer_length x
+fixed_length content.ExtUserPrm = 0
+fixed_length (content.SetSlaveAdr f) = 4
+fixed_length content.RdInp = 0
+fixed_length content.RdOutp = 0
+fixed_length (content.GlobalControl f) = 2
+fixed_length content.GetCfg = 0
+fixed_length content.SlaveDiagCall = 0
+fixed_length (content.SlaveDiag h) = 6
+fixed_length (content.SetPrm f) = user_start f
+fixed_length content.ChkCfg = 0
 
 -- ---- what the laws ask of a content
 

@@ -1,7 +1,7 @@
 // What a service's user data hold, whose they are, and how many bytes the fields take.
 ghost use Rattle.std.specs.Prelude.{◌≡◌};
-ghost use Rattle.parameters.specs.Writing.{userStart};
-ghost use Rattle.content.specs.Fields.{serviceOf, callLength, answerLength, fixedLength};
+ghost use Rattle.parameters.specs.Writing.{user_start};
+ghost use Rattle.content.specs.Fields.{service_of, call_length, answer_length, fixed_length};
 
 use access::Service;
 use acyclic::{Answer, Call};
@@ -31,7 +31,7 @@ pub enum Content {
 
 // The service of a content.
 pub fn service_of(content: Content) -> Service
-    ensures { result ≡ serviceOf content }
+    ensures { result ≡ service_of content }
 {
     match content {
         Content::DataExchange => Service::DataExchange,
@@ -51,7 +51,7 @@ pub fn service_of(content: Content) -> Service
 }
 
 fn call_length(call: Call) -> usize
-    ensures { result ≡ callLength call }
+    ensures { result ≡ call_length call }
 {
     match call {
         Call::Poll => 0,
@@ -72,7 +72,7 @@ fn call_length(call: Call) -> usize
 }
 
 fn answer_length(answer: Answer) -> usize
-    ensures { result ≡ answerLength answer }
+    ensures { result ≡ answer_length answer }
 {
     match answer {
         Answer::Read { slot: _, index: _ } => 4,
@@ -99,7 +99,7 @@ fn answer_length(answer: Answer) -> usize
 
 // The bytes of both versions, and the three that DPV1 adds.
 fn parameters_length(fields: Parameters) -> usize
-    ensures { result ≡ userStart fields }
+    ensures { result ≡ user_start fields }
 {
     let extension = fields.extension;
     match extension {
@@ -114,7 +114,7 @@ fn parameters_length(fields: Parameters) -> usize
 
 // How many bytes the fields take, before the part.
 pub fn fixed_length(content: Content) -> usize
-    ensures { result ≡ fixedLength content }
+    ensures { result ≡ fixed_length content }
 {
     match content {
         Content::DataExchange => 0,

@@ -1,6 +1,6 @@
 // What user data are, by their service and their way.
 ghost use Rattle.std.specs.Prelude.{◌≡◌, length};
-ghost use Rattle.content.specs.Reading.{plain_of, emptyOf, address_of, commandOf, diagnosisOf, parametersOf, configurationOf, dpv1CallOf, dpv1AnswerOf, call_of, answer_of};
+ghost use Rattle.content.specs.Reading.{plain_of, empty_of, address_of, command_of, diagnosis_of, parameters_of, configuration_of, dpv1_call_of, dpv1_answer_of, call_of, answer_of};
 
 use access::{Answering, Service};
 use acyclic::{AnswerReading, CallReading};
@@ -26,7 +26,7 @@ fn read_plain(content: Content, user: &[u8]) -> UserData
 
 // A call that has no data.
 fn read_empty(content: Content, user: &[u8]) -> UserData
-    ensures { result ≡ emptyOf content (length user.now) }
+    ensures { result ≡ empty_of content (length user.now) }
 {
     let len = user.len();
     if 0 < len {
@@ -54,7 +54,7 @@ fn read_address(user: &[u8]) -> UserData
 }
 
 fn read_command(user: &[u8]) -> UserData
-    ensures { result ≡ commandOf user.now }
+    ensures { result ≡ command_of user.now }
 {
     let reading = control::read_global_command(user);
     match reading {
@@ -69,7 +69,7 @@ fn read_command(user: &[u8]) -> UserData
 
 // The blocks stand behind the six bytes of the header.
 fn read_diagnosis(user: &[u8]) -> UserData
-    ensures { result ≡ diagnosisOf user.now }
+    ensures { result ≡ diagnosis_of user.now }
 {
     let reading = diagnosis_reader::read(user);
     match reading {
@@ -83,7 +83,7 @@ fn read_diagnosis(user: &[u8]) -> UserData
 }
 
 fn read_parameters(user: &[u8], mode: Mode) -> UserData
-    ensures { result ≡ parametersOf user.now mode }
+    ensures { result ≡ parameters_of user.now mode }
 {
     let reading = parameters_reader::read(user, mode);
     match reading {
@@ -98,7 +98,7 @@ fn read_parameters(user: &[u8], mode: Mode) -> UserData
 
 // A configuration is all of its bytes: its modules are walked over there.
 fn read_configuration(content: Content, user: &[u8]) -> UserData
-    ensures { result ≡ configurationOf content user.now }
+    ensures { result ≡ configuration_of content user.now }
 {
     let reading = configuration_reader::read(user);
     match reading {
@@ -116,7 +116,7 @@ fn read_configuration(content: Content, user: &[u8]) -> UserData
 }
 
 fn read_dpv1_call(user: &[u8]) -> UserData
-    ensures { result ≡ dpv1CallOf user.now }
+    ensures { result ≡ dpv1_call_of user.now }
 {
     let reading = acyclic_reader::read_call(user);
     match reading {
@@ -130,7 +130,7 @@ fn read_dpv1_call(user: &[u8]) -> UserData
 }
 
 fn read_dpv1_answer(user: &[u8]) -> UserData
-    ensures { result ≡ dpv1AnswerOf user.now }
+    ensures { result ≡ dpv1_answer_of user.now }
 {
     let reading = acyclic_reader::read_answer(user);
     match reading {

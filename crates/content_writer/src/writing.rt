@@ -1,16 +1,16 @@
 // Writing user data at the front of a lent slice, by their service and their way. What goes the other
 // way alone gets 10.
 ghost use Rattle.std.specs.Prelude.{◌≡◌, length};
-ghost use Rattle.octets.specs.Front.{answerBy, heldBy};
-ghost use Rattle.content.specs.Writing.{bytesFor, at_most, callVerdict, answerVerdict};
+ghost use Rattle.octets.specs.Front.{answer_by, held_by};
+ghost use Rattle.content.specs.Writing.{bytes_for, at_most, call_verdict, answer_verdict};
 
 use content::Content;
 use octets::Written;
 
 // Writes bytes as they are: plain ones, or none.
 fn write_at_most(most: usize, part: &[u8], out: &mut [u8]) -> Written
-    ensures answer { result ≡ answerBy (at_most most part.now) part.now (length out.old) }
-    ensures bytes { out.new ≡ heldBy (at_most most part.now) part.now out.old }
+    ensures answer { result ≡ answer_by (at_most most part.now) part.now (length out.old) }
+    ensures bytes { out.new ≡ held_by (at_most most part.now) part.now out.old }
 {
     if most < part.len() {
         return Written::Refused(20);
@@ -23,8 +23,8 @@ fn write_at_most(most: usize, part: &[u8], out: &mut [u8]) -> Written
 
 // Writes the user data of a call from the fields and the part behind them.
 pub fn write_call(content: Content, part: &[u8], out: &mut [u8]) -> Written
-    ensures answer { result ≡ answerBy (callVerdict content part.now) (bytesFor content part.now) (length out.old) }
-    ensures bytes { out.new ≡ heldBy (callVerdict content part.now) (bytesFor content part.now) out.old }
+    ensures answer { result ≡ answer_by (call_verdict content part.now) (bytes_for content part.now) (length out.old) }
+    ensures bytes { out.new ≡ held_by (call_verdict content part.now) (bytes_for content part.now) out.old }
 {
     match content {
         Content::DataExchange => write_at_most(244, part, out),
@@ -45,8 +45,8 @@ pub fn write_call(content: Content, part: &[u8], out: &mut [u8]) -> Written
 
 // Writes the user data of an answer from the fields and the part behind them.
 pub fn write_answer(content: Content, part: &[u8], out: &mut [u8]) -> Written
-    ensures answer { result ≡ answerBy (answerVerdict content part.now) (bytesFor content part.now) (length out.old) }
-    ensures bytes { out.new ≡ heldBy (answerVerdict content part.now) (bytesFor content part.now) out.old }
+    ensures answer { result ≡ answer_by (answer_verdict content part.now) (bytes_for content part.now) (length out.old) }
+    ensures bytes { out.new ≡ held_by (answer_verdict content part.now) (bytes_for content part.now) out.old }
 {
     match content {
         Content::DataExchange => write_at_most(244, part, out),

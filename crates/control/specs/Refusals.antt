@@ -2,21 +2,21 @@
 use Rattle.std.specs.Prelude.{ℕ, ◌≡◌, refl, true, List}
 use Rattle.octets.specs.Choice.{through, alike}
 use Rattle.octets.specs.Front.{Verdict, fine, fault}
-use Rattle.octets.specs.Refusals.{listed, numbered, judged-numbered}
-use Rattle.control.specs.Command.{verdictOf, refused, read_of}
+use Rattle.octets.specs.Refusals.{listed, numbered, judged_numbered}
+use Rattle.control.specs.Command.{verdict_of, refused, read_of}
 use Rattle.control.specs.declared.command.GlobalCommand.{GlobalCommand}
 use Rattle.control.specs.declared.command.CommandReading.{CommandReading}
 use Rattle.control.specs.declared.command.CommandReading.TheVariants.{Command, Refused}
 
 -- the verdict that a reading came to
-abbrev pub verdictIn : CommandReading → Verdict
-verdictIn (Command f start len) = fine
-verdictIn (Refused r) = fault r.number
+abbrev pub verdict_in : CommandReading → Verdict
+verdict_in (Command f start len) = fine
+verdict_in (Refused r) = fault r.number
 
-pub verdict-numbered : (f : GlobalCommand) (size : ℕ) → numbered (verdictOf f size) ≡ true
-unfolding verdictOf listed
-verdict-numbered f size = simp (through numbered, alike)
+pub verdict_numbered : (f : GlobalCommand) (size : ℕ) → numbered (verdict_of f size) ≡ true
+unfolding verdict_of listed
+verdict_numbered f size = simp (through numbered, alike)
 
-pub reading-numbered : (s : List ℕ) → numbered (verdictIn (read_of s)) ≡ true
+pub reading_numbered : (s : List ℕ) → numbered (verdict_in (read_of s)) ≡ true
 unfolding read_of
-reading-numbered s = simp (judged-numbered verdictIn refused (λ k. refl), alike, verdict-numbered)
+reading_numbered s = simp (judged_numbered verdict_in refused (λ k. refl), alike, verdict_numbered)

@@ -1,7 +1,7 @@
 // Global_Control: a command to groups of slaves.
 ghost use Rattle.std.specs.Prelude.{◌≡◌, ◌≤◌, length};
-ghost use Rattle.octets.specs.Front.{AtFront, answerBy, heldBy};
-ghost use Rattle.control.specs.Command.{goodCommand, read_of, fixedBytes, bytesFor, verdictFor};
+ghost use Rattle.octets.specs.Front.{AtFront, answer_by, held_by};
+ghost use Rattle.control.specs.Command.{good_command, read_of, fixed_bytes, bytes_for, verdict_for};
 
 use octets::{Refusal, Written};
 
@@ -27,7 +27,7 @@ pub enum CommandReading {
 
 // Bits 0, 6 and 7 of the command are 0.
 fn good_command(command: u8) -> bool
-    ensures { result ≡ goodCommand command }
+    ensures { result ≡ good_command command }
 {
     if command % 2 != 0 {
         return false;
@@ -60,7 +60,7 @@ pub fn read_global_command(bytes: &[u8]) -> CommandReading
 // Stores the two fixed bytes.
 fn put(fields: GlobalCommand, out: &mut [u8]) -> usize
     requires { 2 ≤ length out.old }
-    ensures { AtFront (fixedBytes fields) out.old out.new result }
+    ensures { AtFront (fixed_bytes fields) out.old out.new result }
 {
     out[0] = fields.command;
     out[1] = fields.groups;
@@ -69,8 +69,8 @@ fn put(fields: GlobalCommand, out: &mut [u8]) -> usize
 
 // Writes a global command from its fields and what follows them.
 pub fn write_global_command(fields: GlobalCommand, rest: &[u8], out: &mut [u8]) -> Written
-    ensures answer { result ≡ answerBy (verdictFor fields rest.now) (bytesFor fields rest.now) (length out.old) }
-    ensures bytes { out.new ≡ heldBy (verdictFor fields rest.now) (bytesFor fields rest.now) out.old }
+    ensures answer { result ≡ answer_by (verdict_for fields rest.now) (bytes_for fields rest.now) (length out.old) }
+    ensures bytes { out.new ≡ held_by (verdict_for fields rest.now) (bytes_for fields rest.now) out.old }
 {
     let size = 2 + rest.len();
     if size != 2 {

@@ -6,6 +6,6 @@ use Rattle.protocol.specs.declared.controller.Action.TheVariants as action
 use Rattle.protocol.specs.declared.controller.Controller.{Controller}
 
 -- the request is sent, or the writer's refusal stands
-abbrev pub sentBy : Controller → Written → Action
-sentBy o (written.Stored n) = action.Send o n
-sentBy o (written.Refused k) = action.Refused k
+abbrev pub sent_by : Controller → Written → Action
+sent_by o (written.Stored n) = action.Send o n
+sent_by o (written.Refused k) = action.Refused k

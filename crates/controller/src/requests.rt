@@ -3,25 +3,25 @@
 // not by the writer of every service, which would judge them once more.
 ghost use Rattle.std.specs.Prelude.{◌≡◌, true, [], ◌+◌, ◌-◌, ◌≤◌, length, drop};
 ghost use Rattle.octets.specs.Front.{AtFront};
-ghost use Rattle.fdl.specs.Around.{goodFields};
-ghost use Rattle.fdl.specs.Writing.{telegramOf};
+ghost use Rattle.fdl.specs.Around.{good_fields};
+ghost use Rattle.fdl.specs.Writing.{telegram_of};
 ghost use Rattle.fdl.specs.declared.telegram.Format.TheVariants.{Sd2};
-ghost use Rattle.access.specs.Route.{headerOf};
+ghost use Rattle.access.specs.Route.{header_of};
 ghost use Rattle.access.specs.declared.table.Service.TheVariants as service;
 ghost use Rattle.acyclic.specs.declared.calls.Call.TheVariants as call;
-ghost use Rattle.book.specs.Contents.{templatesOf};
-ghost use Rattle.content.specs.Writing.{bytesFor};
+ghost use Rattle.book.specs.Contents.{templates_of};
+ghost use Rattle.content.specs.Writing.{bytes_for};
 ghost use Rattle.content.specs.declared.fields.Content.TheVariants as content;
 ghost use Rattle.protocol.specs.Line.{go};
-ghost use Rattle.protocol.specs.Telegrams.{countedCode, openingBytes, pollBytes};
-ghost use Rattle.protocol.specs.Check.{storedIn};
-ghost use Rattle.protocol.specs.Controller.{askFor, acted, leaving};
+ghost use Rattle.protocol.specs.Telegrams.{counted_code, opening_bytes, poll_bytes};
+ghost use Rattle.protocol.specs.Check.{stored_in};
+ghost use Rattle.protocol.specs.Controller.{ask_for, acted, leaving};
 ghost use Rattle.protocol.specs.Verdicts.{Settled};
 ghost use Rattle.protocol.specs.declared.controller.Job.TheVariants as job;
 ghost use Rattle.protocol.specs.declared.controller.Controller.TheVariants as controller;
 ghost use Rattle.controller_state.specs.Accepted.{Accepted};
-ghost use Rattle.controller_moves.specs.Next.{moveIn, FromOne};
-ghost use Rattle.controller.specs.Sent.{sentBy};
+ghost use Rattle.controller_moves.specs.Next.{move_in, FromOne};
+ghost use Rattle.controller.specs.Sent.{sent_by};
 
 use access::Service;
 use book::Template;
@@ -32,7 +32,7 @@ use protocol::{Action, Controller, Ending, Job, Settings};
 
 // The function code of a counted call, SRD low, with its FCB.
 fn counted_code(fcb: bool) -> u8
-    ensures { result ≡ countedCode fcb }
+    ensures { result ≡ counted_code fcb }
 {
     if fcb {
         return 0x7C;
@@ -42,8 +42,8 @@ fn counted_code(fcb: bool) -> u8
 
 // The action when a request was written, or had no room.
 fn sent(controller: Controller, written: Written) -> Action
-    requires { storedIn written ≤ 255 }
-    ensures { result ≡ sentBy controller written }
+    requires { stored_in written ≤ 255 }
+    ensures { result ≡ sent_by controller written }
 {
     match written {
         Written::Stored(count) => Action::Send {
@@ -62,8 +62,8 @@ fn put_empty(
     controller: Controller,
     request: &mut [u8],
 ) -> Action
-    requires { goodFields Sd2 (headerOf service settings.printer settings.controller fc) 0 ≡ true }
-    ensures { leaving result request.new ≡ acted (go (telegramOf Sd2 (headerOf service settings.printer settings.controller fc) []) controller) request.old }
+    requires { good_fields Sd2 (header_of service settings.printer settings.controller fc) 0 ≡ true }
+    ensures { leaving result request.new ≡ acted (go (telegram_of Sd2 (header_of service settings.printer settings.controller fc) []) controller) request.old }
 {
     let header = routing::header_of(service, settings.printer, settings.controller, fc);
     let written = fdl_writer::write_around(Format::Sd2, header, 0, request);
@@ -73,7 +73,7 @@ fn put_empty(
 // Stores the data of a write call to slot number 1: its number, slot, index and length, then the body.
 fn put_data(index: u8, body: &[u8], out: &mut [u8]) -> usize
     requires { (length body.now ≤ 240) × (4 + length body.now ≤ length out.old) }
-    ensures { AtFront (bytesFor (content.Dpv1Call (call.Write 1 index)) body.now) out.old out.new result }
+    ensures { AtFront (bytes_for (content.Dpv1Call (call.Write 1 index)) body.now) out.old out.new result }
 {
     out[0] = acyclic::WRITE;
     out[1] = 1;
@@ -91,8 +91,8 @@ fn put_body(
     controller: Controller,
     request: &mut [u8],
 ) -> Action
-    requires { (length body.now ≤ 240) × (goodFields Sd2 (headerOf service.Dpv1 settings.printer settings.controller fc) (4 + length body.now) ≡ true) }
-    ensures { leaving result request.new ≡ acted (go (telegramOf Sd2 (headerOf service.Dpv1 settings.printer settings.controller fc) (bytesFor (content.Dpv1Call (call.Write 1 index)) body.now)) controller) request.old }
+    requires { (length body.now ≤ 240) × (good_fields Sd2 (header_of service.Dpv1 settings.printer settings.controller fc) (4 + length body.now) ≡ true) }
+    ensures { leaving result request.new ≡ acted (go (telegram_of Sd2 (header_of service.Dpv1 settings.printer settings.controller fc) (bytes_for (content.Dpv1Call (call.Write 1 index)) body.now)) controller) request.old }
 {
     let header = routing::header_of(Service::Dpv1, settings.printer, settings.controller, fc);
     let start = framing::user_start(Format::Sd2, header);
@@ -107,7 +107,7 @@ fn put_body(
 // Writes the opening, a call for the diagnosis, which has no data.
 fn put_opening(settings: Settings, request: &mut [u8]) -> Action
     requires { Settled settings }
-    ensures { leaving result request.new ≡ acted (go (openingBytes settings.printer settings.controller) controller.Opening) request.old }
+    ensures { leaving result request.new ≡ acted (go (opening_bytes settings.printer settings.controller) controller.Opening) request.old }
 {
     put_empty(
         settings,
@@ -129,7 +129,7 @@ fn put_write(
     request: &mut [u8],
 ) -> Action
     requires { (Settled settings) × (Accepted book.now) × (1 ≤ template) }
-    ensures { leaving result request.new ≡ acted (askFor settings template job.Write fcb repeats (drop (template - 1) (templatesOf book.now))) request.old }
+    ensures { leaving result request.new ≡ acted (ask_for settings template job.Write fcb repeats (drop (template - 1) (templates_of book.now))) request.old }
 {
     let found = book_reader::listed(book, template as usize);
     let Template::Is { slot, start, len } = found else {
@@ -160,7 +160,7 @@ fn put_poll(
     request: &mut [u8],
 ) -> Action
     requires { Settled settings }
-    ensures { leaving result request.new ≡ acted (go (pollBytes settings.printer settings.controller fcb) (controller.Asking template (job.Poll left) fcb repeats)) request.old }
+    ensures { leaving result request.new ≡ acted (go (poll_bytes settings.printer settings.controller fcb) (controller.Asking template (job.Poll left) fcb repeats)) request.old }
 {
     put_empty(
         settings,
@@ -179,7 +179,7 @@ fn put_poll(
 // Writes the request that comes next, or hands on the end.
 pub(crate) fn act(settings: Settings, book: &[u8], next: Next, request: &mut [u8]) -> Action
     requires { (Settled settings) × (Accepted book.now) × (FromOne next) }
-    ensures { leaving result request.new ≡ acted (moveIn settings (templatesOf book.now) next) request.old }
+    ensures { leaving result request.new ≡ acted (move_in settings (templates_of book.now) next) request.old }
 {
     match next {
         Next::Open => put_opening(settings, request),

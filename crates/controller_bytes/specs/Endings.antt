@@ -2,12 +2,12 @@
 -- that it does not have.
 use Rattle.std.specs.Prelude.{ℕ, List, [], ◌∷◌}
 use Rattle.octets.specs.Places.{places_of}
-use Rattle.protocol.specs.Endings.{endingNumber, endingValues}
+use Rattle.protocol.specs.Endings.{ending_number, ending_values}
 use Rattle.protocol.specs.declared.controller.Ending.{Ending}
 
-abbrev pub endingBytes : Ending → List ℕ
-endingBytes e = endingNumber e ∷ places_of 3 (endingValues e)
+abbrev pub ending_bytes : Ending → List ℕ
+ending_bytes e = ending_number e ∷ places_of 3 (ending_values e)
 
 -- it has not ended
-abbrev pub goingOn : List ℕ
-goingOn = 0 ∷ places_of 3 []
+abbrev pub going_on : List ℕ
+going_on = 0 ∷ places_of 3 []

@@ -11,30 +11,30 @@ use Rattle.protocol.specs.declared.controller.Controller.TheVariants as controll
 use Rattle.controller_bytes.specs.declared.state.ControllerFound.{ControllerFound}
 use Rattle.controller_bytes.specs.declared.state.ControllerFound.TheVariants.{Is, Unknown}
 
-abbrev pub settingsIn : (settings : List ℕ) → Settings
-settingsIn s = record { printer = get_or s 0 0; controller = get_or s 1 0; repeats = get_or s 2 0; polls = get_or s 3 0 }
+abbrev pub settings_in : (settings : List ℕ) → Settings
+settings_in s = record { printer = get_or s 0 0; controller = get_or s 1 0; repeats = get_or s 2 0; polls = get_or s 3 0 }
 
 -- ---- what bytes are the state of
 
 -- FCB is not above 1
-unfoldable pub askingBy : Job → (template fcb repeats : ℕ) → ControllerFound
-askingBy j k fcb repeats = pick (ltb 1 fcb) Unknown (Is (controller.Asking k j (eqb fcb 1) repeats))
+unfoldable pub asking_by : Job → (template fcb repeats : ℕ) → ControllerFound
+asking_by j k fcb repeats = pick (ltb 1 fcb) Unknown (Is (controller.Asking k j (eqb fcb 1) repeats))
 
 -- 0 for a fresh controller, 1 for the opening, 2 for a write, 3 for a poll
-unfoldable pub controllerIn : (state : List ℕ) → ControllerFound
-controllerIn s =
+unfoldable pub controller_in : (state : List ℕ) → ControllerFound
+controller_in s =
     pick (eqb (get_or s 0 0) 0) (Is controller.Fresh)
     (pick (eqb (get_or s 0 0) 1) (Is controller.Opening)
-    (pick (eqb (get_or s 0 0) 2) (askingBy job.Write (get_or s 1 0) (get_or s 2 0) (get_or s 3 0))
-    (pick (eqb (get_or s 0 0) 3) (askingBy (job.Poll (get_or s 4 0)) (get_or s 1 0) (get_or s 2 0) (get_or s 3 0)) Unknown)))
+    (pick (eqb (get_or s 0 0) 2) (asking_by job.Write (get_or s 1 0) (get_or s 2 0) (get_or s 3 0))
+    (pick (eqb (get_or s 0 0) 3) (asking_by (job.Poll (get_or s 4 0)) (get_or s 1 0) (get_or s 2 0) (get_or s 3 0)) Unknown)))
 
 -- ---- the bytes of a state
 
-abbrev pub askingBytes : (template : ℕ) → Job → (fcb : Bool) (repeats : ℕ) → List ℕ
-askingBytes k job.Write fcb repeats = 2 ∷ k ∷ bit_of fcb ∷ repeats ∷ 0 ∷ []
-askingBytes k (job.Poll left) fcb repeats = 3 ∷ k ∷ bit_of fcb ∷ repeats ∷ left ∷ []
+abbrev pub asking_bytes : (template : ℕ) → Job → (fcb : Bool) (repeats : ℕ) → List ℕ
+asking_bytes k job.Write fcb repeats = 2 ∷ k ∷ bit_of fcb ∷ repeats ∷ 0 ∷ []
+asking_bytes k (job.Poll left) fcb repeats = 3 ∷ k ∷ bit_of fcb ∷ repeats ∷ left ∷ []
 
-abbrev pub controllerBytes : Controller → List ℕ
-controllerBytes controller.Fresh = 0 ∷ 0 ∷ 0 ∷ 0 ∷ 0 ∷ []
-controllerBytes controller.Opening = 1 ∷ 0 ∷ 0 ∷ 0 ∷ 0 ∷ []
-controllerBytes (controller.Asking k j fcb repeats) = askingBytes k j fcb repeats
+abbrev pub controller_bytes : Controller → List ℕ
+controller_bytes controller.Fresh = 0 ∷ 0 ∷ 0 ∷ 0 ∷ 0 ∷ []
+controller_bytes controller.Opening = 1 ∷ 0 ∷ 0 ∷ 0 ∷ 0 ∷ []
+controller_bytes (controller.Asking k j fcb repeats) = asking_bytes k j fcb repeats

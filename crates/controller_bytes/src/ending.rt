@@ -1,12 +1,12 @@
 // How a download stands, as four bytes: its kind, the template, and both codes.
 ghost use Rattle.std.specs.Prelude.{◌≡◌};
-ghost use Rattle.controller_bytes.specs.Endings.{endingBytes, goingOn};
+ghost use Rattle.controller_bytes.specs.Endings.{ending_bytes, going_on};
 
 use protocol::Ending;
 
 // Stores how a download ended.
 pub fn put_ending(how: Ending, ending: &mut [u8; 4])
-    ensures { ending.new ≡ endingBytes how }
+    ensures { ending.new ≡ ending_bytes how }
 {
     match how {
         Ending::Done => {
@@ -36,7 +36,7 @@ pub fn put_ending(how: Ending, ending: &mut [u8; 4])
 
 // Stores that it has not ended.
 pub fn put_going_on(ending: &mut [u8; 4])
-    ensures { ending.new ≡ goingOn }
+    ensures { ending.new ≡ going_on }
 {
     *ending = [0, 0, 0, 0];
 }

@@ -1,6 +1,6 @@
 // What is set for a download as four bytes, and the controller's state as five.
 ghost use Rattle.std.specs.Prelude.{◌≡◌};
-ghost use Rattle.controller_bytes.specs.State.{settingsIn, askingBy, controllerIn, controllerBytes};
+ghost use Rattle.controller_bytes.specs.State.{settings_in, asking_by, controller_in, controller_bytes};
 
 use octets::bit_of;
 use protocol::{Controller, Job, Settings};
@@ -13,7 +13,7 @@ pub enum ControllerFound {
 }
 
 pub fn settings_in(settings: &[u8; 4]) -> Settings
-    ensures { result ≡ settingsIn settings.now }
+    ensures { result ≡ settings_in settings.now }
 {
     Settings {
         printer: settings[0],
@@ -25,7 +25,7 @@ pub fn settings_in(settings: &[u8; 4]) -> Settings
 
 // A controller that has sent a write or a poll, unless its FCB is above 1.
 fn asking_by(job: Job, template: u8, fcb: u8, repeats: u8) -> ControllerFound
-    ensures { result ≡ askingBy job template fcb repeats }
+    ensures { result ≡ asking_by job template fcb repeats }
 {
     if 1 < fcb {
         return ControllerFound::Unknown;
@@ -40,7 +40,7 @@ fn asking_by(job: Job, template: u8, fcb: u8, repeats: u8) -> ControllerFound
 
 // The controller that the bytes are the state of: its kind is known, and FCB, where it has one, not above 1.
 pub fn controller_in(state: &[u8; 5]) -> ControllerFound
-    ensures { result ≡ controllerIn state.now }
+    ensures { result ≡ controller_in state.now }
 {
     let kind = state[0];
     match kind {
@@ -54,7 +54,7 @@ pub fn controller_in(state: &[u8; 5]) -> ControllerFound
 
 // Stores a controller's state.
 pub fn put_controller(controller: Controller, state: &mut [u8; 5])
-    ensures { state.new ≡ controllerBytes controller }
+    ensures { state.new ≡ controller_bytes controller }
 {
     match controller {
         Controller::Fresh => {

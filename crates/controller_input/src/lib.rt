@@ -1,11 +1,11 @@
 // What a reply is to the controller (document 01, "The controller's step"). The reply is read once, also where
 // it carries a service, and of a service only what a download has a use for. Its class is looked up once.
 ghost use Rattle.std.specs.Prelude.{◌≡◌};
-ghost use Rattle.function_code.specs.Code.{classOf};
+ghost use Rattle.function_code.specs.Code.{class_of};
 ghost use Rattle.fdl.specs.Reading.{read_of};
 ghost use Rattle.fdl.specs.declared.reading.Reading.TheVariants.{Telegram};
-ghost use Rattle.protocol.specs.Controller.{gotFrom, gotIn};
-ghost use Rattle.controller_input.specs.Meaning.{gotBy, exchanged};
+ghost use Rattle.protocol.specs.Controller.{got_from, got_in};
+ghost use Rattle.controller_input.specs.Meaning.{got_by, exchanged};
 
 mod origin;
 mod replies;
@@ -49,8 +49,8 @@ fn heard(
     start: usize,
     len: usize,
 ) -> Reply
-    requires { (class ≡ classOf header.fc) × (Telegram format header start len ≡ read_of reply.now) }
-    ensures { gotBy result ≡ gotFrom settings reply.now (Telegram format header start len) }
+    requires { (class ≡ class_of header.fc) × (Telegram format header start len ≡ read_of reply.now) }
+    ensures { got_by result ≡ got_from settings reply.now (Telegram format header start len) }
 {
     if !is_printers(settings, format, header) {
         return Reply::Other;
@@ -60,7 +60,7 @@ fn heard(
 
 // What the bytes that came back are to a controller with these settings.
 pub fn take(settings: Settings, reply: &[u8]) -> Exchange
-    ensures { exchanged result ≡ gotIn settings reply.now }
+    ensures { exchanged result ≡ got_in settings reply.now }
 {
     let reading = fdl_reader::read_classed(reply);
     match reading {

@@ -1,12 +1,12 @@
 // Whether a telegram is the printer's reply to this controller.
 ghost use Rattle.std.specs.Prelude.{◌≡◌};
-ghost use Rattle.protocol.specs.Controller.{isSd2, isPrinters};
+ghost use Rattle.protocol.specs.Controller.{is_sd2, is_printers};
 
 use fdl::{Format, Header};
 use protocol::Settings;
 
 fn is_sd2(format: Format) -> bool
-    ensures { result ≡ isSd2 format }
+    ensures { result ≡ is_sd2 format }
 {
     match format {
         Format::Sd1 => false,
@@ -17,7 +17,7 @@ fn is_sd2(format: Format) -> bool
 
 // The printer's: SD2 with function code 08, from the printer address set to the controller address set.
 pub(crate) fn is_printers(settings: Settings, format: Format, header: Header) -> bool
-    ensures { result ≡ isPrinters settings format header }
+    ensures { result ≡ is_printers settings format header }
 {
     if !is_sd2(format) {
         return false;

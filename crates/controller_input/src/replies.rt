@@ -2,10 +2,10 @@
 // another reply.
 ghost use Rattle.std.specs.Prelude.{◌≡◌};
 ghost use Rattle.protocol.specs.Controller as controller;
-ghost use Rattle.function_code.specs.Code.{classOf};
-ghost use Rattle.access.specs.Route.{routeOf};
-ghost use Rattle.content.specs.Reading.{diagnosisOf, dpv1AnswerOf, answer_of};
-ghost use Rattle.controller_input.specs.Meaning.{gotBy, gotOfData, gotOfRoute};
+ghost use Rattle.function_code.specs.Code.{class_of};
+ghost use Rattle.access.specs.Route.{route_of};
+ghost use Rattle.content.specs.Reading.{diagnosis_of, dpv1_answer_of, answer_of};
+ghost use Rattle.controller_input.specs.Meaning.{got_by, got_of_data, got_of_route};
 
 use crate::Reply;
 use access::{Answering, Route};
@@ -16,7 +16,7 @@ use function_code::Class;
 
 // A negative answer: a write's alone is DF.
 fn negative(function: Function, code1: u8, code2: u8) -> Reply
-    ensures { gotBy result ≡ controller.negativeOf function code1 code2 }
+    ensures { got_by result ≡ controller.negative_of function code1 code2 }
 {
     match function {
         Function::Read => Reply::Other,
@@ -28,7 +28,7 @@ fn negative(function: Function, code1: u8, code2: u8) -> Reply
 
 // A DPV1 answer: a write's is 5F.
 fn reply_of_dpv1(answer: Answer) -> Reply
-    ensures { gotBy result ≡ controller.gotOfDpv1 answer }
+    ensures { got_by result ≡ controller.got_of_dpv1 answer }
 {
     match answer {
         Answer::Read { slot: _, index: _ } => Reply::Other,
@@ -59,7 +59,7 @@ fn reply_of_dpv1(answer: Answer) -> Reply
 
 // An answer of DPV1, where it can be read.
 fn reply_by_dpv1(user: &[u8]) -> Reply
-    ensures { gotBy result ≡ gotOfData (dpv1AnswerOf user.now) }
+    ensures { got_by result ≡ got_of_data (dpv1_answer_of user.now) }
 {
     let reading = acyclic_reader::read_answer(user);
     match reading {
@@ -74,7 +74,7 @@ fn reply_by_dpv1(user: &[u8]) -> Reply
 
 // A diagnosis, where it can be read.
 fn reply_by_diagnosis(user: &[u8]) -> Reply
-    ensures { gotBy result ≡ gotOfData (diagnosisOf user.now) }
+    ensures { got_by result ≡ got_of_data (diagnosis_of user.now) }
 {
     let reading = diagnosis_reader::read(user);
     match reading {
@@ -89,7 +89,7 @@ fn reply_by_diagnosis(user: &[u8]) -> Reply
 // A diagnosis, a DPV1 answer, or a service that no request of a download asks for: that is another reply, whether its
 // data can be read or not.
 fn answered(answering: Answering, user: &[u8]) -> Reply
-    ensures { gotBy result ≡ gotOfData (answer_of answering user.now) }
+    ensures { got_by result ≡ got_of_data (answer_of answering user.now) }
 {
     match answering {
         Answering::DataExchange => Reply::Other,
@@ -104,8 +104,8 @@ fn answered(answering: Answering, user: &[u8]) -> Reply
 // What a telegram with this header and these user data says, whose function code is of this class. A call is another
 // reply, whatever it asks for.
 pub(crate) fn routed(class: Class, header: Header, user: &[u8]) -> Reply
-    requires { class ≡ classOf header.fc }
-    ensures { gotBy result ≡ gotOfRoute (routeOf header) user.now }
+    requires { class ≡ class_of header.fc }
+    ensures { got_by result ≡ got_of_route (route_of header) user.now }
 {
     let route = routing::route_by(class, header);
     match route {

@@ -1,12 +1,12 @@
 // What comes next by the reply: a request or the end. No request is written here.
 ghost use Rattle.std.specs.Prelude.{◌≡◌, List, ℕ, ◌-◌, ◌≤◌, length, drop};
 ghost use Rattle.octets.specs.Front.{fine};
-ghost use Rattle.book.specs.Contents.{Entry, templatesOf};
-ghost use Rattle.protocol.specs.Controller.{settled as settledBy, pollAgain, afterWrite, afterPoll, afterOpening, afterJob, moveBy, verdictOf};
+ghost use Rattle.book.specs.Contents.{Entry, templates_of};
+ghost use Rattle.protocol.specs.Controller.{settled as settledBy, poll_again, after_write, after_poll, after_opening, after_job, move_by, verdict_of};
 ghost use Rattle.protocol.specs.Verdicts.{Settled};
-ghost use Rattle.controller_input.specs.Meaning.{gotBy, exchanged};
+ghost use Rattle.controller_input.specs.Meaning.{got_by, exchanged};
 ghost use Rattle.controller_state.specs.Accepted.{Accepted, Standing};
-ghost use Rattle.controller_moves.specs.Next.{Says, mayRepeat};
+ghost use Rattle.controller_moves.specs.Next.{Says, may_repeat};
 
 use book::Template;
 use controller_input::{Exchange, Reply};
@@ -34,7 +34,7 @@ pub enum Next {
 
 // Whether nothing came and the request may be sent again.
 fn may_repeat(exchange: Exchange, repeats: u8) -> bool
-    ensures { result ≡ mayRepeat (exchanged exchange) repeats }
+    ensures { result ≡ may_repeat (exchanged exchange) repeats }
 {
     match exchange {
         Exchange::Answered(_) => false,
@@ -44,7 +44,7 @@ fn may_repeat(exchange: Exchange, repeats: u8) -> bool
 
 // After the opening, which is sent once: without a diagnosis back there is none.
 fn after_opening(settings: Settings, exchange: Exchange) -> Next
-    ensures { (book : List Entry) → Says settings book result (afterOpening settings book (exchanged exchange)) }
+    ensures { (book : List Entry) → Says settings book result (after_opening settings book (exchanged exchange)) }
 {
     let Exchange::Answered(reply) = exchange else {
         return Next::End(Ending::NoOpening);
@@ -62,7 +62,7 @@ fn after_opening(settings: Settings, exchange: Exchange) -> Next
 // After the write of a template: the first poll for its result.
 fn after_write(settings: Settings, template: u8, fcb: bool, repeats: u8, exchange: Exchange) -> Next
     requires { (Settled settings) × (1 ≤ template) }
-    ensures { (book : List Entry) → template ≤ length book → Says settings book result (afterWrite settings template fcb repeats (drop (template - 1) book) (exchanged exchange)) }
+    ensures { (book : List Entry) → template ≤ length book → Says settings book result (after_write settings template fcb repeats (drop (template - 1) book) (exchanged exchange)) }
 {
     if may_repeat(exchange, repeats) {
         // The same write again: a repeat keeps FCB.
@@ -90,7 +90,7 @@ fn after_write(settings: Settings, template: u8, fcb: bool, repeats: u8, exchang
 
 // After SC to a poll: another poll, while any is left.
 fn poll_again(settings: Settings, template: u8, left: u8, fcb: bool) -> Next
-    ensures { (book : List Entry) → 1 ≤ template → template ≤ length book → Says settings book result (pollAgain settings template fcb left (drop (template - 1) book)) }
+    ensures { (book : List Entry) → 1 ≤ template → template ≤ length book → Says settings book result (poll_again settings template fcb left (drop (template - 1) book)) }
 {
     if left == 0 {
         return Next::End(Ending::NotReady { template });
@@ -117,7 +117,7 @@ fn settled(
     length: u8,
 ) -> Next
     requires { (Accepted book.now) × (1 ≤ template) }
-    ensures { Says settings (templatesOf book.now) result (settledBy settings template fcb slot index length (drop (template - 1) (templatesOf book.now))) }
+    ensures { Says settings (templates_of book.now) result (settledBy settings template fcb slot index length (drop (template - 1) (templates_of book.now))) }
 {
     let found = book_reader::listed(book, template as usize);
     let Template::Is {
@@ -154,7 +154,7 @@ fn after_result(
     reply: Reply,
 ) -> Next
     requires { Standing book.now template }
-    ensures { (repeats : ℕ) → Says settings (templatesOf book.now) result (afterPoll settings template left fcb repeats (drop (template - 1) (templatesOf book.now)) (gotBy reply)) }
+    ensures { (repeats : ℕ) → Says settings (templates_of book.now) result (after_poll settings template left fcb repeats (drop (template - 1) (templates_of book.now)) (got_by reply)) }
 {
     match reply {
         Reply::Confirmation => poll_again(settings, template, left, fcb),
@@ -184,7 +184,7 @@ fn after_poll(
     exchange: Exchange,
 ) -> Next
     requires { Standing book.now template }
-    ensures { Says settings (templatesOf book.now) result (afterPoll settings template left fcb repeats (drop (template - 1) (templatesOf book.now)) (exchanged exchange)) }
+    ensures { Says settings (templates_of book.now) result (after_poll settings template left fcb repeats (drop (template - 1) (templates_of book.now)) (exchanged exchange)) }
 {
     if may_repeat(exchange, repeats) {
         // The same poll again: a repeat keeps FCB.
@@ -214,7 +214,7 @@ fn after_job(
     exchange: Exchange,
 ) -> Next
     requires { (Settled settings) × (Standing book.now template) }
-    ensures { Says settings (templatesOf book.now) result (afterJob settings template job fcb repeats (drop (template - 1) (templatesOf book.now)) (exchanged exchange)) }
+    ensures { Says settings (templates_of book.now) result (after_job settings template job fcb repeats (drop (template - 1) (templates_of book.now)) (exchanged exchange)) }
 {
     match job {
         Job::Write => after_write(settings, template, fcb, repeats, exchange),
@@ -229,8 +229,8 @@ pub(crate) fn move_by(
     controller: Controller,
     exchange: Exchange,
 ) -> Next
-    requires { verdictOf settings book.now controller ≡ fine }
-    ensures { Says settings (templatesOf book.now) result (moveBy settings (templatesOf book.now) controller (exchanged exchange)) }
+    requires { verdict_of settings book.now controller ≡ fine }
+    ensures { Says settings (templates_of book.now) result (move_by settings (templates_of book.now) controller (exchanged exchange)) }
 {
     match controller {
         Controller::Fresh => Next::Open,

@@ -4,9 +4,9 @@ use Rattle.std.proofs.Common.{sym, ap, ◌∙◌, arith, drop_of_length-le, drop
 use borrow.Author.Tests.{ltb-true, ltb-false, lt-ltb, le-ltb}
 use Rattle.octets.specs.Part.{part_of}
 use Rattle.octets.specs.declared.Refusal.{Refusal}
-use Rattle.book.specs.Contents.{Entry, InOrder, templatesOf}
-use Rattle.book.specs.Laws.{templates-in-order, template-is, listed-is}
-use Rattle.book.specs.Template.{refused, listed_of, templateOf, start_of}
+use Rattle.book.specs.Contents.{Entry, InOrder, templates_of}
+use Rattle.book.specs.Laws.{templates_in_order, template_is, listed_is}
+use Rattle.book.specs.Template.{refused, listed_of, template_of, start_of}
 use Rattle.book.specs.declared.answers.Template.{Template}
 use Rattle.book.specs.declared.answers.Template.TheVariants.{Is, Refused}
 use Rattle.controller_state.specs.Accepted.{Accepted}
@@ -16,8 +16,8 @@ pub none : Entry
 none = record { slot = 0; body = [] }
 
 -- the templates from k on
-pub left-from : (book : List Entry) (k : ℕ) → 1 ≤ k → k ≤ length book → drop (k - 1) book ≡ get_or book (k - 1) none ∷ drop k book
-left-from book k some most =
+pub left_from : (book : List Entry) (k : ℕ) → 1 ≤ k → k ≤ length book → drop (k - 1) book ≡ get_or book (k - 1) none ∷ drop k book
+left_from book k some most =
     let inside : k - 1 < length book = omega arith in
     let behind : suc (k - 1) ≡ k = omega arith in
     drop-cons book (k - 1) none inside ∙ ap (λ (n : ℕ). get_or book (k - 1) none ∷ drop n book) behind
@@ -29,22 +29,22 @@ sized m (t ∷ ts) zero o h = (o.2, o.3)
 sized m (t ∷ ts) (suc i) o h = sized (suc t.slot) ts i o.4 (omega arith)
 
 module _ (s : List ℕ) (k : ℕ) (book : Accepted s) (some : 1 ≤ k) where
-  past : length (templatesOf s) < k → templateOf s k ≡ refused 12
-  unfolding templateOf
+  past : length (templates_of s) < k → template_of s k ≡ refused 12
+  unfolding template_of
   past h = simp (book, le-ltb _ _ some, lt-ltb _ _ h)
 
   -- template k, counted from 1
   abbrev the : Entry
-  the = get_or (templatesOf s) (k - 1) none
+  the = get_or (templates_of s) (k - 1) none
 
-  there : k ≤ length (templatesOf s) → templateOf s k ≡ Is the.slot (start_of s (k - 1)) (length the.body)
+  there : k ≤ length (templates_of s) → template_of s k ≡ Is the.slot (start_of s (k - 1)) (length the.body)
   there h =
       let i : suc (k - 1) ≡ k = omega arith in
-      ap (templateOf s) (sym i) ∙ (template-is s book none (k - 1) (omega arith)).is
+      ap (template_of s) (sym i) ∙ (template_is s book none (k - 1) (omega arith)).is
 
   -- what is found is in the book, and is that template
   pub record Holds (x start len : ℕ) : Type 0 where
-    pub most : k ≤ length (templatesOf s)
+    pub most : k ≤ length (templates_of s)
     pub slot : x ≡ the.slot
     pub long : len ≡ length the.body
     pub part : part_of s start len ≡ the.body
@@ -52,19 +52,19 @@ module _ (s : List ℕ) (k : ℕ) (book : Accepted s) (some : 1 ≤ k) where
     pub short : length the.body ≤ 200
 
   pub holds : {t : Template} {x start len : ℕ} → t ≡ listed_of s k → t ≡ Is x start len → Holds x start len
-  holds {t} {x} {start} {len} e l = by (ltb (length (templatesOf s)) k) refl
+  holds {t} {x} {start} {len} e l = by (ltb (length (templates_of s)) k) refl
     where
-      by : (b : Bool) → ltb (length (templatesOf s)) k ≡ b → Holds x start len
-      by true g = let p = listed-is s book k ∙ past (ltb-true _ _ g) in absurd (let z : ◌≡◌ {A = ℕ} 0 1 = cc in omega arith)
+      by : (b : Bool) → ltb (length (templates_of s)) k ≡ b → Holds x start len
+      by true g = let p = listed_is s book k ∙ past (ltb-true _ _ g) in absurd (let z : ◌≡◌ {A = ℕ} 0 1 = cc in omega arith)
       by false g =
-          let most : k ≤ length (templatesOf s) = ltb-false _ _ g in
-          let inside : k - 1 < length (templatesOf s) = omega arith in
-          let f = template-is s book none (k - 1) inside in
-          let same : Is x start len ≡ Is the.slot (start_of s (k - 1)) (length the.body) = sym l ∙ e ∙ listed-is s book k ∙ there most in
+          let most : k ≤ length (templates_of s) = ltb-false _ _ g in
+          let inside : k - 1 < length (templates_of s) = omega arith in
+          let f = template_is s book none (k - 1) inside in
+          let same : Is x start len ≡ Is the.slot (start_of s (k - 1)) (length the.body) = sym l ∙ e ∙ listed_is s book k ∙ there most in
           let slot : x ≡ the.slot = cc in
           let begins : start ≡ start_of s (k - 1) = cc in
           let long : len ≡ length the.body = cc in
-          let z = sized 0 (templatesOf s) (k - 1) (templates-in-order s book).0 inside in
+          let z = sized 0 (templates_of s) (k - 1) (templates_in_order s book).0 inside in
           record {
             most = most;
             slot = slot;
@@ -75,14 +75,14 @@ module _ (s : List ℕ) (k : ℕ) (book : Accepted s) (some : 1 ≤ k) where
           }
 
   -- where none is found, none is left
-  pub none_left : {t : Template} {r : Refusal} → t ≡ listed_of s k → t ≡ Refused r → drop (k - 1) (templatesOf s) ≡ []
-  none_left e l = by (ltb (length (templatesOf s)) k) refl
+  pub none_left : {t : Template} {r : Refusal} → t ≡ listed_of s k → t ≡ Refused r → drop (k - 1) (templates_of s) ≡ []
+  none_left e l = by (ltb (length (templates_of s)) k) refl
     where
-      by : (b : Bool) → ltb (length (templatesOf s)) k ≡ b → drop (k - 1) (templatesOf s) ≡ []
-      by true g = drop_of_length-le (templatesOf s) {i = k - 1} (omega (arith, ltb-true (length (templatesOf s)) k g))
-      by false g = let p = listed-is s book k ∙ there (ltb-false _ _ g) in absurd (let z : ◌≡◌ {A = ℕ} 0 1 = cc in omega arith)
+      by : (b : Bool) → ltb (length (templates_of s)) k ≡ b → drop (k - 1) (templates_of s) ≡ []
+      by true g = drop_of_length-le (templates_of s) {i = k - 1} (omega (arith, ltb-true (length (templates_of s)) k g))
+      by false g = let p = listed_is s book k ∙ there (ltb-false _ _ g) in absurd (let z : ◌≡◌ {A = ℕ} 0 1 = cc in omega arith)
 
 -- where one is found, it is left with those behind it
 pub one_left : {s : List ℕ} {k : ℕ} {book : Accepted s} {some : 1 ≤ k} {x start len : ℕ} → Holds s k book some x start len
-    → drop (k - 1) (templatesOf s) ≡ get_or (templatesOf s) (k - 1) none ∷ drop k (templatesOf s)
-one_left {s} {k} {some = some} h = left-from (templatesOf s) k some h.most
+    → drop (k - 1) (templates_of s) ≡ get_or (templates_of s) (k - 1) none ∷ drop k (templates_of s)
+one_left {s} {k} {some = some} h = left_from (templates_of s) k some h.most

@@ -3,10 +3,10 @@ ghost use Rattle.std.specs.Prelude.{◌≡◌, false, eqb, length};
 ghost use Rattle.octets.specs.Choice.{◌or◌};
 ghost use Rattle.octets.specs.Front.{fault};
 ghost use Rattle.octets.specs.Fixed.{judged};
-ghost use Rattle.book.specs.Contents.{templatesOf};
+ghost use Rattle.book.specs.Contents.{templates_of};
 ghost use Rattle.book.specs.Reading.{read_of};
-ghost use Rattle.protocol.specs.Check.{verdictIn};
-ghost use Rattle.protocol.specs.Controller.{settingsVerdict, bookVerdict, requestsBefore, wrongFcb, tooManyPolls, stateVerdict, verdictOf};
+ghost use Rattle.protocol.specs.Check.{verdict_in};
+ghost use Rattle.protocol.specs.Controller.{settings_verdict, book_verdict, requests_before, wrong_fcb, too_many_polls, state_verdict, verdict_of};
 ghost use Rattle.protocol.specs.declared.controller.Controller.TheVariants.{Asking};
 
 use book::Reading;
@@ -14,7 +14,7 @@ use protocol::{Check, Controller, Job, Settings};
 
 // Whether a download may have these settings, else 12.
 pub fn usable(settings: Settings) -> Check
-    ensures { verdictIn result ≡ settingsVerdict settings }
+    ensures { verdict_in result ≡ settings_verdict settings }
 {
     if 126 < settings.printer {
         return Check::Refused(12);
@@ -39,7 +39,7 @@ pub fn usable(settings: Settings) -> Check
 
 // Whether more polls are left than a template gets.
 fn too_many_polls(settings: Settings, job: Job) -> bool
-    ensures { result ≡ tooManyPolls settings job }
+    ensures { result ≡ too_many_polls settings job }
 {
     match job {
         Job::Write => false,
@@ -49,8 +49,8 @@ fn too_many_polls(settings: Settings, job: Job) -> bool
 
 // How many requests were made for a template before this one, repeats not counted.
 fn requests_before(settings: Settings, job: Job) -> u8
-    requires { tooManyPolls settings job ≡ false }
-    ensures { result ≡ requestsBefore settings job }
+    requires { too_many_polls settings job ≡ false }
+    ensures { result ≡ requests_before settings job }
 {
     match job {
         Job::Write => 0,
@@ -71,8 +71,8 @@ fn fcb_known(settings: Settings, template: u8) -> bool
 
 // Whether FCB is known and is another.
 fn wrong_fcb(settings: Settings, template: u8, job: Job, fcb: bool) -> bool
-    requires { tooManyPolls settings job ≡ false }
-    ensures { result ≡ wrongFcb settings template job fcb }
+    requires { too_many_polls settings job ≡ false }
+    ensures { result ≡ wrong_fcb settings template job fcb }
 {
     if !fcb_known(settings, template) {
         return false;
@@ -93,7 +93,7 @@ fn job_usable(
     fcb: bool,
     repeats: u8,
 ) -> Check
-    ensures { verdictIn result ≡ stateVerdict settings count (Asking template job fcb repeats) }
+    ensures { verdict_in result ≡ state_verdict settings count (Asking template job fcb repeats) }
 {
     if template < 1 {
         return Check::Refused(12);
@@ -115,7 +115,7 @@ fn job_usable(
 
 // Whether a run leads to this state, with a book of so many templates.
 fn state_usable(settings: Settings, count: usize, controller: Controller) -> Check
-    ensures { verdictIn result ≡ stateVerdict settings count controller }
+    ensures { verdict_in result ≡ state_verdict settings count controller }
 {
     match controller {
         Controller::Fresh => Check::Fine,
@@ -131,7 +131,7 @@ fn state_usable(settings: Settings, count: usize, controller: Controller) -> Che
 
 // The book's own refusal, then the state's.
 fn book_usable(settings: Settings, book: &[u8], controller: Controller) -> Check
-    ensures { verdictIn result ≡ judged fault (bookVerdict (read_of book.now)) (stateVerdict settings (length (templatesOf book.now)) controller) }
+    ensures { verdict_in result ≡ judged fault (book_verdict (read_of book.now)) (state_verdict settings (length (templates_of book.now)) controller) }
 {
     let reading = book_reader::read(book);
     match reading {
@@ -142,7 +142,7 @@ fn book_usable(settings: Settings, book: &[u8], controller: Controller) -> Check
 
 // Whether the controller may take a step: the first refusal decides.
 pub fn judge(settings: Settings, book: &[u8], controller: Controller) -> Check
-    ensures { verdictIn result ≡ verdictOf settings book.now controller }
+    ensures { verdict_in result ≡ verdict_of settings book.now controller }
 {
     let check = usable(settings);
     match check {

@@ -6,16 +6,16 @@ use Rattle.std.specs.Prelude.{ℕ, suc, ◌+◌, ◌/◌, ◌%◌, ◌≤◌, �
 -- the master's address, or 255 for none
 pub data MasterByte (b : ℕ) : Type 0 where
   station : b ≤ 125 → MasterByte b
-  no-station : b ≡ 255 → MasterByte b
+  no_station : b ≡ 255 → MasterByte b
 
 pub record HeaderBytes (s : List ℕ) : Type 0 where
   -- status 1: bits 0, 5 and 7 are 0
-  pub status1-bit0 : get_or s 0 0 % 2 ≡ 0
-  pub status1-bit5 : get_or s 0 0 / 32 % 2 ≡ 0
-  pub status1-bit7 : get_or s 0 0 < 128
+  pub status1_bit0 : get_or s 0 0 % 2 ≡ 0
+  pub status1_bit5 : get_or s 0 0 / 32 % 2 ≡ 0
+  pub status1_bit7 : get_or s 0 0 < 128
   -- status 2: bit 2 is 1, bits 6 and 7 are 0
-  pub status2-bit2 : get_or s 1 0 / 4 % 2 ≡ 1
-  pub status2-high : get_or s 1 0 < 64
+  pub status2_bit2 : get_or s 1 0 / 4 % 2 ≡ 1
+  pub status2_high : get_or s 1 0 < 64
   -- status 3: bits 0..6 are 0
   pub status3 : get_or s 2 0 % 128 ≡ 0
   pub master : MasterByte (get_or s 3 0)
@@ -24,8 +24,8 @@ pub record HeaderBytes (s : List ℕ) : Type 0 where
 
 -- byte 3 of a channel block: type 1..6, error 1..9 or 16..31
 pub data CodeByte (b : ℕ) : Type 0 where
-  low-error : 1 ≤ b / 32 → b / 32 ≤ 6 → 1 ≤ b % 32 → b % 32 ≤ 9 → CodeByte b
-  high-error : 1 ≤ b / 32 → b / 32 ≤ 6 → 16 ≤ b % 32 → CodeByte b
+  low_error : 1 ≤ b / 32 → b / 32 ≤ 6 → 1 ≤ b % 32 → b % 32 ≤ 9 → CodeByte b
+  high_error : 1 ≤ b / 32 → b / 32 ≤ 6 → 16 ≤ b % 32 → CodeByte b
 
 -- n blocks from a place on, which tile the bytes to their end: a device or module block as long as its header says, a channel block
 -- of three bytes

@@ -4,10 +4,10 @@ use Rattle.std.specs.Prelude.{ℕ, ◌+◌, ◌≡◌, Bool, true, false, List, 
 use Rattle.octets.specs.Part.{part_of}
 use Rattle.octets.specs.Front.{Verdict, fine, fault}
 use Rattle.octets.specs.declared.Refusal.{Refusal}
-use Rattle.diagnosis.specs.Map.{setOf, lowestOf}
+use Rattle.diagnosis.specs.Map.{set_of, lowest_of}
 use Rattle.diagnosis.specs.Reading.{read_of}
 use Rattle.diagnosis.specs.Walk.{next_of}
-use Rattle.diagnosis.specs.Writing.{diagnosisBytes, verdictOf, deviceBytes, deviceVerdict, moduleBytes, moduleVerdict, channelBytes, channelVerdict}
+use Rattle.diagnosis.specs.Writing.{diagnosis_bytes, verdict_of, device_bytes, device_verdict, module_bytes, module_verdict, channel_bytes, channel_verdict}
 use Rattle.diagnosis.specs.declared.reading.Header.{Header}
 use Rattle.diagnosis.specs.declared.reading.Count.{Count}
 use Rattle.diagnosis.specs.declared.reading.Count.TheVariants as count
@@ -26,21 +26,21 @@ pub data Contents : Type 0 where
   diagnosis : Header → (blocks : List ℕ) → Contents
 
 -- a reading's header, and the bytes of its blocks as the part of the bytes from 6 on
-abbrev pub contentsIn : List ℕ → Reading → Contents
-contentsIn s (Diagnosis h n) = diagnosis h (drop 6 s)
-contentsIn s (Refused r) = nothing
+abbrev pub contents_in : List ℕ → Reading → Contents
+contents_in s (Diagnosis h n) = diagnosis h (drop 6 s)
+contents_in s (Refused r) = nothing
 
-abbrev pub contentsOf : List ℕ → Contents
-contentsOf s = contentsIn s (read_of s)
+abbrev pub contents_of : List ℕ → Contents
+contents_of s = contents_in s (read_of s)
 
 -- the bytes that writing stores for them, and whether it takes them
-abbrev pub bytesFor : Contents → List ℕ
-bytesFor nothing = []
-bytesFor (diagnosis h blocks) = diagnosisBytes h blocks
+abbrev pub bytes_for : Contents → List ℕ
+bytes_for nothing = []
+bytes_for (diagnosis h blocks) = diagnosis_bytes h blocks
 
-abbrev pub verdictFor : Contents → Verdict
-verdictFor nothing = fault 12
-verdictFor (diagnosis h blocks) = verdictOf h blocks
+abbrev pub verdict_for : Contents → Verdict
+verdict_for nothing = fault 12
+verdict_for (diagnosis h blocks) = verdict_of h blocks
 
 abbrev pub accepted : Reading → Bool
 accepted (Diagnosis h n) = true
@@ -54,36 +54,36 @@ pub data Item : Type 0 where
   channel : the-channel.Channel → Item
 
 -- a block's fields, and its bytes as the part that it names
-abbrev pub itemIn : List ℕ → TheBlock.Block → Item
-itemIn s (block.Device start len) = device (part_of s start len)
-itemIn s (block.Module start len set lowest) = modules (part_of s start len)
-itemIn s (block.Channel c) = channel c
+abbrev pub item_in : List ℕ → TheBlock.Block → Item
+item_in s (block.Device start len) = device (part_of s start len)
+item_in s (block.Module start len set lowest) = modules (part_of s start len)
+item_in s (block.Channel c) = channel c
 
 -- the bytes that writing stores for them, and whether it takes them
-abbrev pub itemBytes : Item → List ℕ
-itemBytes (device bytes) = deviceBytes bytes
-itemBytes (modules map) = moduleBytes map
-itemBytes (channel c) = channelBytes c
+abbrev pub item_bytes : Item → List ℕ
+item_bytes (device bytes) = device_bytes bytes
+item_bytes (modules map) = module_bytes map
+item_bytes (channel c) = channel_bytes c
 
-abbrev pub itemVerdict : Item → Verdict
-itemVerdict (device bytes) = deviceVerdict bytes
-itemVerdict (modules map) = moduleVerdict map
-itemVerdict (channel c) = channelVerdict c
+abbrev pub item_verdict : Item → Verdict
+item_verdict (device bytes) = device_verdict bytes
+item_verdict (modules map) = module_verdict map
+item_verdict (channel c) = channel_verdict c
 
 -- the block that they are at a place
-abbrev pub blockFor : (at : ℕ) → Item → TheBlock.Block
-blockFor at (device bytes) = block.Device (at + 1) (length bytes)
-blockFor at (modules map) = block.Module (at + 1) (length map) (setOf map) (lowestOf map)
-blockFor at (channel c) = block.Channel c
+abbrev pub block_for : (at : ℕ) → Item → TheBlock.Block
+block_for at (device bytes) = block.Device (at + 1) (length bytes)
+block_for at (modules map) = block.Module (at + 1) (length map) (set_of map) (lowest_of map)
+block_for at (channel c) = block.Channel c
 
 -- blocks one after the other
 abbrev pub joined : List Item → List ℕ
 joined [] = []
-joined (x ∷ xs) = itemBytes x ++ joined xs
+joined (x ∷ xs) = item_bytes x ++ joined xs
 
 pub data Writable : List Item → Type 0 where
   none : Writable []
-  one_more : {x : Item} {xs : List Item} → itemVerdict x ≡ fine → Writable xs → Writable (x ∷ xs)
+  one_more : {x : Item} {xs : List Item} → item_verdict x ≡ fine → Writable xs → Writable (x ∷ xs)
 
 -- ---- the walk to its end
 

@@ -9,22 +9,22 @@ unfoldable pub reports : (map : List ℕ) (k : ℕ) → Bool
 reports map k = eqb (get_or map (k / 8) 0 / 2 ^ (k % 8) % 2) 1
 
 -- of the n numbers from k on: how many pass a test, and the lowest that does
-unfoldable pub countFrom : (test : ℕ → Bool) (k n : ℕ) → ℕ
-countFrom test k zero = 0
-countFrom test k (suc n) = pick (test k) 1 0 + countFrom test (suc k) n
+unfoldable pub count_from : (test : ℕ → Bool) (k n : ℕ) → ℕ
+count_from test k zero = 0
+count_from test k (suc n) = pick (test k) 1 0 + count_from test (suc k) n
 
-unfoldable pub lowestFrom : (test : ℕ → Bool) (k n : ℕ) → Lowest
-lowestFrom test k zero = Nothing
-lowestFrom test k (suc n) = pick (test k) (Module k) (lowestFrom test (suc k) n)
+unfoldable pub lowest_from : (test : ℕ → Bool) (k n : ℕ) → Lowest
+lowest_from test k zero = Nothing
+lowest_from test k (suc n) = pick (test k) (Module k) (lowest_from test (suc k) n)
 
 -- the number of modules that report, and the lowest that does
-abbrev pub setOf : (map : List ℕ) → ℕ
-setOf map = countFrom (reports map) 0 (8 * length map)
+abbrev pub set_of : (map : List ℕ) → ℕ
+set_of map = count_from (reports map) 0 (8 * length map)
 
-abbrev pub lowestOf : (map : List ℕ) → Lowest
-lowestOf map = lowestFrom (reports map) 0 (8 * length map)
+abbrev pub lowest_of : (map : List ℕ) → Lowest
+lowest_of map = lowest_from (reports map) 0 (8 * length map)
 
 -- its number; 65535 where none reports, which no module has: the longest map has the modules 0 to 495
-abbrev pub lowestNumber : Lowest → ℕ
-lowestNumber (Module k) = k
-lowestNumber Nothing = 65535
+abbrev pub lowest_number : Lowest → ℕ
+lowest_number (Module k) = k
+lowest_number Nothing = 65535

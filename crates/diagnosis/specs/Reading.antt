@@ -17,20 +17,20 @@ use Rattle.diagnosis.specs.declared.reading.Reading.TheVariants.{Diagnosis, Refu
 -- ---- the header
 
 -- bits 0, 5 and 7 are 0
-unfoldable pub goodStatus1 : ℕ → Bool
-goodStatus1 b = eqb (b % 2) 0 and eqb (b / 32 % 2) 0 and eqb (b / 128) 0
+unfoldable pub good_status1 : ℕ → Bool
+good_status1 b = eqb (b % 2) 0 and eqb (b / 32 % 2) 0 and eqb (b / 128) 0
 
 -- bit 2 is 1, bits 6 and 7 are 0
-unfoldable pub goodStatus2 : ℕ → Bool
-goodStatus2 b = eqb (b / 4 % 2) 1 and eqb (b / 64) 0
+unfoldable pub good_status2 : ℕ → Bool
+good_status2 b = eqb (b / 4 % 2) 1 and eqb (b / 64) 0
 
 -- bits 0..6 are 0
-abbrev pub goodStatus3 : ℕ → Bool
-goodStatus3 b = eqb (b % 128) 0
+abbrev pub good_status3 : ℕ → Bool
+good_status3 b = eqb (b % 128) 0
 
 -- the master's address, or 255 for none
-unfoldable pub goodMaster : ℕ → Bool
-goodMaster b = leb b 125 or eqb b 255
+unfoldable pub good_master : ℕ → Bool
+good_master b = leb b 125 or eqb b 255
 
 -- ---- the blocks
 
@@ -46,10 +46,10 @@ onward (found.Is e) rest = more e (rest (e.len - 1))
 onward (found.Refused r) rest = bad r
 
 -- the blocks of bytes of which the first `skip` are passed over
-unfoldable pub blocksIn : List ℕ → (skip : ℕ) → Blocks
-blocksIn [] skip = end
-blocksIn (x ∷ xs) zero = onward (found_at (x ∷ xs) 0) (λ skip. blocksIn xs skip)
-blocksIn (x ∷ xs) (suc skip) = blocksIn xs skip
+unfoldable pub blocks_in : List ℕ → (skip : ℕ) → Blocks
+blocks_in [] skip = end
+blocks_in (x ∷ xs) zero = onward (found_at (x ∷ xs) 0) (λ skip. blocks_in xs skip)
+blocks_in (x ∷ xs) (suc skip) = blocks_in xs skip
 
 -- how many blocks there are, with n before them
 abbrev pub counted : (n : ℕ) → Blocks → Count
@@ -58,18 +58,18 @@ counted n (bad r) = count.Refused r
 counted n (more e blocks) = counted (n + 1) blocks
 
 abbrev pub count_of : List ℕ → Count
-count_of s = counted 0 (blocksIn s 0)
+count_of s = counted 0 (blocks_in s 0)
 
 abbrev pub refused : ℕ → Count
 refused k = count.Refused (refusal k)
 
 -- the agreement of Ext_Diag: bit 3 of status 1 is set exactly when a block exists
-unfoldable pub extDiagAgrees : (status1 blocks : ℕ) → Bool
-extDiagAgrees status1 blocks = pick (eqb blocks 0) (eqb (status1 / 8 % 2) 0) (eqb (status1 / 8 % 2) 1)
+unfoldable pub ext_diag_agrees : (status1 blocks : ℕ) → Bool
+ext_diag_agrees status1 blocks = pick (eqb blocks 0) (eqb (status1 / 8 % 2) 0) (eqb (status1 / 8 % 2) 1)
 
 abbrev pub agreed : (status1 : ℕ) → Count → Count
 agreed status1 (count.Refused r) = count.Refused r
-agreed status1 (count.Blocks n) = pick (extDiagAgrees status1 n) (count.Blocks n) (refused 22)
+agreed status1 (count.Blocks n) = pick (ext_diag_agrees status1 n) (count.Blocks n) (refused 22)
 
 -- ---- the whole
 
@@ -77,15 +77,15 @@ agreed status1 (count.Blocks n) = pick (extDiagAgrees status1 n) (count.Blocks n
 unfoldable pub judge : Header → (blocks : List ℕ) → Count
 judge h blocks =
     pick (ltb 238 (length blocks)) (refused 20)
-    (pick (not (goodStatus1 h.status1)) (refused 21)
-    (pick (not (goodStatus2 h.status2)) (refused 21)
-    (pick (not (goodStatus3 h.status3)) (refused 21)
-    (pick (not (goodMaster h.master)) (refused 21)
+    (pick (not (good_status1 h.status1)) (refused 21)
+    (pick (not (good_status2 h.status2)) (refused 21)
+    (pick (not (good_status3 h.status3)) (refused 21)
+    (pick (not (good_master h.master)) (refused 21)
     (agreed h.status1 (count_of blocks))))))
 
 -- ident is high byte first
-abbrev pub headerOf : List ℕ → Header
-headerOf s =
+abbrev pub header_of : List ℕ → Header
+header_of s =
     record {
       status1 = get_or s 0 0;
       status2 = get_or s 1 0;
@@ -99,4 +99,4 @@ answered h (count.Refused r) = Refused r
 answered h (count.Blocks n) = Diagnosis h n
 
 unfoldable pub read_of : List ℕ → Reading
-read_of s = pick (ltb (length s) 6) (Refused (refusal 20)) (answered (headerOf s) (judge (headerOf s) (drop 6 s)))
+read_of s = pick (ltb (length s) 6) (Refused (refusal 20)) (answered (header_of s) (judge (header_of s) (drop 6 s)))

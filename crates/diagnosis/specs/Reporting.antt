@@ -5,8 +5,8 @@ use Rattle.std.proofs.Math.Decide.{dec_le}
 use Rattle.std.proofs.Math.Nat.{zero-div}
 use borrow.Author.Tests.{eqb-true, eqb-false, eq-eqb}
 use Rattle.octets.specs.Elements.{get_d_past}
-use Rattle.diagnosis.specs.Map.{reports, countFrom, lowestFrom, setOf, lowestOf}
-use Rattle.diagnosis.specs.Lemmas.Map.{Finds, found, none, finds, count-more}
+use Rattle.diagnosis.specs.Map.{reports, count_from, lowest_from, set_of, lowest_of}
+use Rattle.diagnosis.specs.Lemmas.Map.{Finds, found, none, finds, count_more}
 use Rattle.diagnosis.specs.declared.map.Lowest.{Lowest}
 use Rattle.diagnosis.specs.declared.map.Lowest.TheVariants.{Module, Nothing}
 
@@ -15,17 +15,17 @@ abbrev pub Reports : List ℕ → (k : ℕ) → Type 0
 Reports map k = get_or map (k / 8) 0 / 2 ^ (k % 8) % 2 ≡ 1
 
 module _ (map : List ℕ) where
-  reports-yes : (k : ℕ) → Reports map k → reports map k ≡ true
+  reports_yes : (k : ℕ) → Reports map k → reports map k ≡ true
   unfolding reports
-  reports-yes k e = eq-eqb _ _ e
+  reports_yes k e = eq-eqb _ _ e
 
-  yes-reports : (k : ℕ) → reports map k ≡ true → Reports map k
+  yes_reports : (k : ℕ) → reports map k ≡ true → Reports map k
   unfolding reports
-  yes-reports k e = eqb-true _ _ e
+  yes_reports k e = eqb-true _ _ e
 
-  no-reports : (k : ℕ) → reports map k ≡ false → Reports map k → ⊥
+  no_reports : (k : ℕ) → reports map k ≡ false → Reports map k → ⊥
   unfolding reports
-  no-reports k e = eqb-false _ _ e
+  no_reports k e = eqb-false _ _ e
 
   -- a module that reports stands in the map
   inside : (k : ℕ) → Reports map k → k < 8 * length map
@@ -42,11 +42,11 @@ module _ (map : List ℕ) where
   Means Nothing = (j : ℕ) → Reports map j → ⊥
 
   means : {r : Lowest} → Finds (reports map) 0 (8 * length map) r → Means r
-  means (found {m} t l) = (yes-reports m t, λ j h. no-reports j (l j (omega arith) h))
-  means (none l) = λ j e. no-reports j (l j (omega arith) (omega (arith, inside j e))) e
+  means (found {m} t l) = (yes_reports m t, λ j h. no_reports j (l j (omega arith) h))
+  means (none l) = λ j e. no_reports j (l j (omega arith) (omega (arith, inside j e))) e
 
-  lowest-means : Means (lowestOf map)
-  lowest-means = means (finds (reports map) 0 (8 * length map))
+  lowest_means : Means (lowest_of map)
+  lowest_means = means (finds (reports map) 0 (8 * length map))
 
   -- one meaning, one answer
   only : (r q : Lowest) → Means r → Means q → r ≡ q
@@ -64,23 +64,23 @@ module _ (map : List ℕ) where
   only Nothing Nothing m n = refl
 
   -- The lowest module is k exactly when k reports and none below it does.
-  pub lowest-reports : (k : ℕ) → lowestOf map ≡ Module k ↔ Reports map k × ((j : ℕ) → j < k → Reports map j → ⊥)
-  lowest-reports k = (λ e. subst Means e lowest-means, λ m. only (lowestOf map) (Module k) lowest-means m)
+  pub lowest_reports : (k : ℕ) → lowest_of map ≡ Module k ↔ Reports map k × ((j : ℕ) → j < k → Reports map j → ⊥)
+  lowest_reports k = (λ e. subst Means e lowest_means, λ m. only (lowest_of map) (Module k) lowest_means m)
 
   -- There is none exactly when no module reports.
-  pub none-reports : lowestOf map ≡ Nothing ↔ ((j : ℕ) → Reports map j → ⊥)
-  none-reports = (λ e. subst Means e lowest-means, λ m. only (lowestOf map) Nothing lowest-means m)
+  pub none_reports : lowest_of map ≡ Nothing ↔ ((j : ℕ) → Reports map j → ⊥)
+  none_reports = (λ e. subst Means e lowest_means, λ m. only (lowest_of map) Nothing lowest_means m)
 
 -- The number of modules that report is the number of set bits, byte by byte.
-pub set-of-none : setOf [] ≡ 0
-unfolding countFrom
-set-of-none = refl
+pub set_of_none : set_of [] ≡ 0
+unfolding count_from
+set_of_none = refl
 
-pub set-of-more : (x : ℕ) (map : List ℕ)
-    → setOf (x ∷ map) ≡ x % 2 + x / 2 % 2 + x / 4 % 2 + x / 8 % 2 + x / 16 % 2 + x / 32 % 2 + x / 64 % 2 + x / 128 % 2 + setOf map
-set-of-more = count-more
+pub set_of_more : (x : ℕ) (map : List ℕ)
+    → set_of (x ∷ map) ≡ x % 2 + x / 2 % 2 + x / 4 % 2 + x / 8 % 2 + x / 16 % 2 + x / 32 % 2 + x / 64 % 2 + x / 128 % 2 + set_of map
+set_of_more = count_more
 
 -- Modules 11 and 13, in a map of three bytes.
-pub maps-computed : (lowestOf (0 ∷ 40 ∷ 0 ∷ []) ≡ Module 11) × (setOf (0 ∷ 40 ∷ 0 ∷ []) ≡ 2) × (lowestOf (0 ∷ []) ≡ Nothing)
-unfolding reports countFrom lowestFrom
-maps-computed = (refl, refl, refl)
+pub maps_computed : (lowest_of (0 ∷ 40 ∷ 0 ∷ []) ≡ Module 11) × (set_of (0 ∷ 40 ∷ 0 ∷ []) ≡ 2) × (lowest_of (0 ∷ []) ≡ Nothing)
+unfolding reports count_from lowest_from
+maps_computed = (refl, refl, refl)

@@ -1,8 +1,8 @@
 -- The walk over the blocks of a diagnosis, one block at a time (document 01, "Diagnosis").
 use Rattle.std.specs.Prelude.{ℕ, ◌+◌, ◌-◌, ◌/◌, ◌%◌, List, length, get_or, take, drop, eqb, ltb}
 use Rattle.octets.specs.Choice.{pick}
-use Rattle.diagnosis.specs.Map.{setOf, lowestOf}
-use Rattle.diagnosis.specs.Block.{directionPlace, typePlace, refusal, found_at}
+use Rattle.diagnosis.specs.Map.{set_of, lowest_of}
+use Rattle.diagnosis.specs.Block.{direction_place, type_place, refusal, found_at}
 use Rattle.diagnosis.specs.declared.block.Kind as the-kind
 use Rattle.diagnosis.specs.declared.block.Kind.TheVariants as kind
 use Rattle.diagnosis.specs.declared.block.Extent.{Extent}
@@ -23,10 +23,10 @@ abbrev pub fields_of : (head second third : ℕ) → the-channel.Channel
 fields_of head second third =
     record {
       «module» = head % 64;
-      direction = second / directionPlace;
-      channel = second % directionPlace;
-      kind = third / typePlace;
-      error = third % typePlace;
+      direction = second / direction_place;
+      channel = second % direction_place;
+      kind = third / type_place;
+      error = third % type_place;
     }
 
 -- the bytes of s after a block's header at a place, of a block of so many bytes
@@ -34,13 +34,13 @@ abbrev pub behind : List ℕ → (at len : ℕ) → List ℕ
 behind s at len = take (len - 1) (drop (at + 1) s)
 
 -- what the block at a place says
-abbrev pub blockBy : List ℕ → (at : ℕ) → the-kind.Kind → (len : ℕ) → TheBlock.Block
-blockBy s at kind.Device len = Device (at + 1) (len - 1)
-blockBy s at kind.Module len = Module (at + 1) (len - 1) (setOf (behind s at len)) (lowestOf (behind s at len))
-blockBy s at kind.Channel len = Channel (fields_of (get_or s at 0) (get_or s (at + 1) 0) (get_or s (at + 2) 0))
+abbrev pub block_by : List ℕ → (at : ℕ) → the-kind.Kind → (len : ℕ) → TheBlock.Block
+block_by s at kind.Device len = Device (at + 1) (len - 1)
+block_by s at kind.Module len = Module (at + 1) (len - 1) (set_of (behind s at len)) (lowest_of (behind s at len))
+block_by s at kind.Channel len = Channel (fields_of (get_or s at 0) (get_or s (at + 1) 0) (get_or s (at + 2) 0))
 
 abbrev pub block_of : List ℕ → (at : ℕ) → Extent → TheBlock.Block
-block_of s at e = blockBy s at e.kind e.len
+block_of s at e = block_by s at e.kind e.len
 
 abbrev pub step_of : List ℕ → (at : ℕ) → Found → Step
 step_of s at (found.Is e) = Block (block_of s at e) (position (at + e.len))

@@ -1,6 +1,6 @@
 // What stands where a block begins: which kind of block, and how long, or the first fault.
 ghost use Rattle.std.specs.Prelude.{◌≡◌};
-ghost use Rattle.diagnosis.specs.Block.{goodCode};
+ghost use Rattle.diagnosis.specs.Block.{good_code};
 
 use octets::Refusal;
 
@@ -34,7 +34,7 @@ pub enum Found {
 
 // Whether the codes of a channel block's third byte, its channel type and its error, are in use.
 pub fn good_code(kind: u8, error: u8) -> bool
-    ensures { result ≡ goodCode kind error }
+    ensures { result ≡ good_code kind error }
 {
     if kind < 1 {
         return false;

@@ -1,7 +1,7 @@
 // What stands at a place where a block of a diagnosis may begin (document 01, "Diagnosis"): reading and the
 // walk find each block alike.
 ghost use Rattle.std.specs.Prelude.{◌≡◌, ◌+◌, ◌-◌, ◌<◌, length, get_or};
-ghost use Rattle.diagnosis.specs.Block.{sizedOf, deviceOf, channelOf, found_at};
+ghost use Rattle.diagnosis.specs.Block.{sized_of, device_of, channel_of, found_at};
 
 use diagnosis::{CHANNEL_BLOCK, DEVICE_BLOCK, Extent, Found, Kind, MODULE_BLOCK, good_code};
 use octets::Refusal;
@@ -9,7 +9,7 @@ use octets::Refusal;
 // A block whose header has its length.
 fn sized_at(kind: Kind, s: &[u8], at: usize) -> Found
     requires { at < length s.now }
-    ensures { result ≡ sizedOf kind (get_or s.now at 0) (length s.now - at) }
+    ensures { result ≡ sized_of kind (get_or s.now at 0) (length s.now - at) }
 {
     let len = (s[at] % 64) as usize;
     if len < 2 {
@@ -24,7 +24,7 @@ fn sized_at(kind: Kind, s: &[u8], at: usize) -> Found
 // The rule of a device block.
 fn device_at(s: &[u8], at: usize) -> Found
     requires { at < length s.now }
-    ensures { result ≡ deviceOf (get_or s.now at 0) (length s.now - at) }
+    ensures { result ≡ device_of (get_or s.now at 0) (length s.now - at) }
 {
     sized_at(Kind::Device, s, at)
 }
@@ -32,7 +32,7 @@ fn device_at(s: &[u8], at: usize) -> Found
 // A channel block: three bytes, of which the last two have codes.
 fn channel_at(s: &[u8], at: usize) -> Found
     requires { at < length s.now }
-    ensures { result ≡ channelOf (get_or s.now (at + 1) 0) (get_or s.now (at + 2) 0) (length s.now - at) }
+    ensures { result ≡ channel_of (get_or s.now (at + 1) 0) (get_or s.now (at + 2) 0) (length s.now - at) }
 {
     if s.len() - at < 3 {
         return Found::Refused(Refusal { number: 24 });

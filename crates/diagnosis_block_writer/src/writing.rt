@@ -1,7 +1,7 @@
 // Writing one block at the front of a lent slice.
 ghost use Rattle.std.specs.Prelude.{◌≡◌, ◌∷◌, ◌+◌, ◌≤◌, length};
-ghost use Rattle.octets.specs.Front.{AtFront, answerBy, heldBy};
-ghost use Rattle.diagnosis.specs.Writing.{sizedVerdict, deviceBytes, deviceVerdict, moduleBytes, moduleVerdict, fits, channelBytes, channelVerdict};
+ghost use Rattle.octets.specs.Front.{AtFront, answer_by, held_by};
+ghost use Rattle.diagnosis.specs.Writing.{sized_verdict, device_bytes, device_verdict, module_bytes, module_verdict, fits, channel_bytes, channel_verdict};
 
 use diagnosis::good_code;
 use octets::Written;
@@ -24,8 +24,8 @@ fn put_block(head: u8, bytes: &[u8], out: &mut [u8]) -> usize
 // Writes a block whose header has its length, with the bits 7-6 that kind has.
 fn write_sized(kind: u8, bytes: &[u8], out: &mut [u8]) -> Written
     requires { kind ≤ 64 }
-    ensures answer { result ≡ answerBy (sizedVerdict bytes.now) ((kind + (length bytes.now + 1)) ∷ bytes.now) (length out.old) }
-    ensures bytes { out.new ≡ heldBy (sizedVerdict bytes.now) ((kind + (length bytes.now + 1)) ∷ bytes.now) out.old }
+    ensures answer { result ≡ answer_by (sized_verdict bytes.now) ((kind + (length bytes.now + 1)) ∷ bytes.now) (length out.old) }
+    ensures bytes { out.new ≡ held_by (sized_verdict bytes.now) ((kind + (length bytes.now + 1)) ∷ bytes.now) out.old }
 {
     let len = bytes.len() + 1;
     if len < 2 {
@@ -42,16 +42,16 @@ fn write_sized(kind: u8, bytes: &[u8], out: &mut [u8]) -> Written
 
 // Writes a device block from the bytes after its header.
 pub fn write_device(bytes: &[u8], out: &mut [u8]) -> Written
-    ensures answer { result ≡ answerBy (deviceVerdict bytes.now) (deviceBytes bytes.now) (length out.old) }
-    ensures bytes { out.new ≡ heldBy (deviceVerdict bytes.now) (deviceBytes bytes.now) out.old }
+    ensures answer { result ≡ answer_by (device_verdict bytes.now) (device_bytes bytes.now) (length out.old) }
+    ensures bytes { out.new ≡ held_by (device_verdict bytes.now) (device_bytes bytes.now) out.old }
 {
     write_sized(DEVICE, bytes, out)
 }
 
 // Writes a module block from its map.
 pub fn write_module(map: &[u8], out: &mut [u8]) -> Written
-    ensures answer { result ≡ answerBy (moduleVerdict map.now) (moduleBytes map.now) (length out.old) }
-    ensures bytes { out.new ≡ heldBy (moduleVerdict map.now) (moduleBytes map.now) out.old }
+    ensures answer { result ≡ answer_by (module_verdict map.now) (module_bytes map.now) (length out.old) }
+    ensures bytes { out.new ≡ held_by (module_verdict map.now) (module_bytes map.now) out.old }
 {
     write_sized(MODULE, map, out)
 }
@@ -68,8 +68,8 @@ fn fits_byte(high: u8, top: u8, low: u8, bottom: u8) -> bool
 
 // Writes a channel block: of each byte the fields must fit, and then its codes be in use.
 pub fn write_channel(channel: diagnosis::Channel, out: &mut [u8]) -> Written
-    ensures answer { result ≡ answerBy (channelVerdict channel) (channelBytes channel) (length out.old) }
-    ensures bytes { out.new ≡ heldBy (channelVerdict channel) (channelBytes channel) out.old }
+    ensures answer { result ≡ answer_by (channel_verdict channel) (channel_bytes channel) (length out.old) }
+    ensures bytes { out.new ≡ held_by (channel_verdict channel) (channel_bytes channel) out.old }
 {
     if 63 < channel.module {
         return Written::Refused(21);

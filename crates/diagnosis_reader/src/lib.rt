@@ -1,6 +1,6 @@
 // Reading a diagnosis: each byte that can be refused has its own return, in document 01's order.
 ghost use Rattle.std.specs.Prelude.{◌≡◌, ◌≤◌, length, drop};
-ghost use Rattle.diagnosis.specs.Reading.{goodStatus1, goodStatus2, goodStatus3, goodMaster, extDiagAgrees, count_of, agreed, judge, headerOf, read_of};
+ghost use Rattle.diagnosis.specs.Reading.{good_status1, good_status2, good_status3, good_master, ext_diag_agrees, count_of, agreed, judge, header_of, read_of};
 
 use diagnosis::{Count, Found, Header, Reading};
 use diagnosis_block::found_at;
@@ -8,7 +8,7 @@ use octets::Refusal;
 
 // Bits 0, 5 and 7 are 0.
 fn good_status1(status: u8) -> bool
-    ensures { result ≡ goodStatus1 status }
+    ensures { result ≡ good_status1 status }
 {
     if status % 2 != 0 {
         return false;
@@ -21,7 +21,7 @@ fn good_status1(status: u8) -> bool
 
 // Bit 2 is 1; bits 6 and 7 are 0.
 fn good_status2(status: u8) -> bool
-    ensures { result ≡ goodStatus2 status }
+    ensures { result ≡ good_status2 status }
 {
     if status / 4 % 2 != 1 {
         return false;
@@ -31,14 +31,14 @@ fn good_status2(status: u8) -> bool
 
 // Bits 0 to 6 are 0.
 fn good_status3(status: u8) -> bool
-    ensures { result ≡ goodStatus3 status }
+    ensures { result ≡ good_status3 status }
 {
     status % 128 == 0
 }
 
 // An address, or none.
 fn good_master(master: u8) -> bool
-    ensures { result ≡ goodMaster master }
+    ensures { result ≡ good_master master }
 {
     if master <= 125 {
         return true;
@@ -48,7 +48,7 @@ fn good_master(master: u8) -> bool
 
 // Whether Ext_Diag, bit 3 of status 1, agrees with the number of blocks.
 fn ext_diag_agrees(status1: u8, blocks: usize) -> bool
-    ensures { result ≡ extDiagAgrees status1 blocks }
+    ensures { result ≡ ext_diag_agrees status1 blocks }
 {
     let flag = status1 / 8 % 2;
     if blocks == 0 {
@@ -129,7 +129,7 @@ pub fn blocks_behind(header: Header, blocks: &[u8]) -> Count
 
 fn header_of(bytes: &[u8]) -> Header
     requires { 6 ≤ length bytes.now }
-    ensures { result ≡ headerOf bytes.now }
+    ensures { result ≡ header_of bytes.now }
 {
     Header {
         status1: bytes[0],

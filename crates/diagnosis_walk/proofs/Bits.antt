@@ -12,7 +12,7 @@ use lib.Pow.{shr-shr}
 use lib.Count.{ones, ones_step, ones_in, under, count_trailing_zeros}
 use borrow.Author.Tests.{eq-eqb, ne_eqb, eqb-true, eqb-false}
 use Rattle.octets.specs.Choice.{pick}
-use Rattle.diagnosis.specs.Map.{reports, countFrom, lowestFrom}
+use Rattle.diagnosis.specs.Map.{reports, count_from, lowest_from}
 use Rattle.diagnosis.specs.Lemmas.Map.{bit}
 use Rattle.diagnosis.specs.declared.map.Lowest.TheVariants.{Module}
 
@@ -35,35 +35,35 @@ module _ (test : ℕ → Bool) where
       ap test z ∙ b (suc j) (omega arith) ∙ ap (λ (y : ℕ). eqb (y % 2) 1) (sym s)
 
 -- the d lowest bits of a number that has no others
-ones-in : (d x : ℕ) → x < 2 ^ d → ones x ≡ ones_in d x
+ones_in_lem : (d x : ℕ) → x < 2 ^ d → ones x ≡ ones_in d x
 unfolding ones ones_in
-ones-in zero x h = let z : x ≡ 0 = omega arith in ap ones z
-ones-in (suc d) x h =
+ones_in_lem zero x h = let z : x ≡ 0 = omega arith in ap ones z
+ones_in_lem (suc d) x h =
     let b : x / 2 < 2 ^ d = omega (arith, rw (pow-suc 2 d) at h) in
-    ones_step x ∙ ap (λ (n : ℕ). x % 2 + n) (ones-in d (x / 2) b)
+    ones_step x ∙ ap (λ (n : ℕ). x % 2 + n) (ones_in_lem d (x / 2) b)
 
 module _ (test : ℕ → Bool) where
-  count_bits : (d k x n : ℕ) → Bits test k d x → countFrom test k (d + n) ≡ ones_in d x + countFrom test (k + d) n
-  unfolding countFrom ones_in
-  count_bits zero k x n b = ap₂ (countFrom test) (sym (add-zero k)) (zero-add n) ∙ sym (zero-add (countFrom test (k + 0) n))
+  count_bits : (d k x n : ℕ) → Bits test k d x → count_from test k (d + n) ≡ ones_in d x + count_from test (k + d) n
+  unfolding count_from ones_in
+  count_bits zero k x n b = ap₂ (count_from test) (sym (add-zero k)) (zero-add n) ∙ sym (zero-add (count_from test (k + 0) n))
   count_bits (suc d) k x n b =
       let e : suc k + d ≡ k + suc d = omega arith in
       let t : pick (test k) 1 0 ≡ x % 2 = ap (λ (v : Bool). pick v 1 0) (first test k d x b) ∙ bit x in
       let r = count_bits d (suc k) (x / 2) n (others test k d x b) in
-      let s : countFrom test (suc k + d) n ≡ countFrom test (k + suc d) n = ap (λ (i : ℕ). countFrom test i n) e in
-      ap (countFrom test k) (suc-add d n) ∙ omega arith
+      let s : count_from test (suc k + d) n ≡ count_from test (k + suc d) n = ap (λ (i : ℕ). count_from test i n) e in
+      ap (count_from test k) (suc-add d n) ∙ omega arith
 
-  lowest-bits : (d k x n : ℕ) → x < 2 ^ d → Bits test k d x
-      → lowestFrom test k (d + n) ≡ pick (eqb x 0) (lowestFrom test (k + d) n) (Module (k + count_trailing_zeros d x))
-  unfolding lowestFrom count_trailing_zeros
-  lowest-bits zero k x n h b =
+  lowest_bits : (d k x n : ℕ) → x < 2 ^ d → Bits test k d x
+      → lowest_from test k (d + n) ≡ pick (eqb x 0) (lowest_from test (k + d) n) (Module (k + count_trailing_zeros d x))
+  unfolding lowest_from count_trailing_zeros
+  lowest_bits zero k x n h b =
       let z : x ≡ 0 = omega arith in
-      simp (eq-eqb x 0 z) (ap₂ (lowestFrom test) (sym (add-zero k)) (zero-add n))
-  lowest-bits (suc d) k x n h b =
+      simp (eq-eqb x 0 z) (ap₂ (lowest_from test) (sym (add-zero k)) (zero-add n))
+  lowest_bits (suc d) k x n h b =
       let s : x / 2 < 2 ^ d = omega (arith, rw (pow-suc 2 d) at h) in
-      ap (lowestFrom test k) (suc-add d n)
-      ∙ ap (λ (v : Bool). pick v (Module k) (lowestFrom test (suc k) (d + n))) (first test k d x b)
-      ∙ parity (lowest-bits d (suc k) (x / 2) n s (others test k d x b)) (x % 2) refl
+      ap (lowest_from test k) (suc-add d n)
+      ∙ ap (λ (v : Bool). pick v (Module k) (lowest_from test (suc k) (d + n))) (first test k d x b)
+      ∙ parity (lowest_bits d (suc k) (x / 2) n s (others test k d x b)) (x % 2) refl
     where
       -- an even number is 0 where its half is
       half : x % 2 ≡ 0 → (v : Bool) → eqb x 0 ≡ v → eqb (x / 2) 0 ≡ v
@@ -75,16 +75,16 @@ module _ (test : ℕ → Bool) where
           ne_eqb _ _ z
 
       parity :
-          lowestFrom test (suc k) (d + n) ≡ pick (eqb (x / 2) 0) (lowestFrom test (suc k + d) n) (Module (suc k + count_trailing_zeros d (x / 2)))
+          lowest_from test (suc k) (d + n) ≡ pick (eqb (x / 2) 0) (lowest_from test (suc k + d) n) (Module (suc k + count_trailing_zeros d (x / 2)))
           → (r : ℕ) → x % 2 ≡ r
-          → pick (eqb r 1) (Module k) (lowestFrom test (suc k) (d + n))
-          ≡ pick (eqb x 0) (lowestFrom test (k + suc d) n) (Module (k + under r (count_trailing_zeros d (x / 2))))
+          → pick (eqb r 1) (Module k) (lowest_from test (suc k) (d + n))
+          ≡ pick (eqb x 0) (lowest_from test (k + suc d) n) (Module (k + under r (count_trailing_zeros d (x / 2))))
       parity others-are zero e =
           let t : suc k + count_trailing_zeros d (x / 2) ≡ k + suc (count_trailing_zeros d (x / 2)) = omega arith in
           let l : suc k + d ≡ k + suc d = omega arith in
           others-are
-          ∙ ap (λ (v : Bool). pick v (lowestFrom test (suc k + d) n) (Module (suc k + count_trailing_zeros d (x / 2)))) (half e (eqb x 0) refl)
-          ∙ ap₂ (λ (i j : ℕ). pick (eqb x 0) (lowestFrom test i n) (Module j)) l t
+          ∙ ap (λ (v : Bool). pick v (lowest_from test (suc k + d) n) (Module (suc k + count_trailing_zeros d (x / 2)))) (half e (eqb x 0) refl)
+          ∙ ap₂ (λ (i j : ℕ). pick (eqb x 0) (lowest_from test i n) (Module j)) l t
       parity others-are (suc zero) e =
           let z : x ≡ 0 → ⊥ = λ q. omega arith in
           simp (ne_eqb x 0 z, add-zero)
@@ -106,20 +106,20 @@ module _ (map : List ℕ) (i : ℕ) (h : i < length map) (b : get_or map i 0 < 2
   next : 8 * i + 8 ≡ 8 * (i + 1)
   next = omega arith
 
-  pub count-byte : countFrom (reports map) (8 * i) (8 * (length map - i))
-      ≡ ones (get_or map i 0) + countFrom (reports map) (8 * (i + 1)) (8 * (length map - (i + 1)))
-  count-byte =
-      ap (countFrom (reports map) (8 * i)) left
+  pub count_byte : count_from (reports map) (8 * i) (8 * (length map - i))
+      ≡ ones (get_or map i 0) + count_from (reports map) (8 * (i + 1)) (8 * (length map - (i + 1)))
+  count_byte =
+      ap (count_from (reports map) (8 * i)) left
       ∙ count_bits (reports map) 8 (8 * i) (get_or map i 0) (8 * (length map - (i + 1))) here
-      ∙ ap₂ (λ (x y : ℕ). x + countFrom (reports map) y (8 * (length map - (i + 1)))) (sym (ones-in 8 (get_or map i 0) b)) next
+      ∙ ap₂ (λ (x y : ℕ). x + count_from (reports map) y (8 * (length map - (i + 1)))) (sym (ones_in_lem 8 (get_or map i 0) b)) next
 
-  pub lowest-byte : lowestFrom (reports map) (8 * i) (8 * (length map - i))
-      ≡ pick (eqb (get_or map i 0) 0) (lowestFrom (reports map) (8 * (i + 1)) (8 * (length map - (i + 1))))
+  pub lowest_byte : lowest_from (reports map) (8 * i) (8 * (length map - i))
+      ≡ pick (eqb (get_or map i 0) 0) (lowest_from (reports map) (8 * (i + 1)) (8 * (length map - (i + 1))))
       (Module (8 * i + count_trailing_zeros 8 (get_or map i 0)))
-  lowest-byte =
-      ap (lowestFrom (reports map) (8 * i)) left
-      ∙ lowest-bits (reports map) 8 (8 * i) (get_or map i 0) (8 * (length map - (i + 1))) b here
+  lowest_byte =
+      ap (lowest_from (reports map) (8 * i)) left
+      ∙ lowest_bits (reports map) 8 (8 * i) (get_or map i 0) (8 * (length map - (i + 1))) b here
       ∙ ap
       (λ (y : ℕ).
-      pick (eqb (get_or map i 0) 0) (lowestFrom (reports map) y (8 * (length map - (i + 1)))) (Module (8 * i + count_trailing_zeros 8 (get_or map i 0))))
+      pick (eqb (get_or map i 0) 0) (lowest_from (reports map) y (8 * (length map - (i + 1)))) (Module (8 * i + count_trailing_zeros 8 (get_or map i 0))))
       next

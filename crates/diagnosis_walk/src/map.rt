@@ -1,6 +1,6 @@
 // The map of a module block: a bit a module, module 0 in bit 0 of the first byte.
 ghost use Rattle.std.specs.Prelude.{◌≡◌, ◌≤◌, length};
-ghost use Rattle.diagnosis.specs.Map.{setOf, lowestOf};
+ghost use Rattle.diagnosis.specs.Map.{set_of, lowest_of};
 
 use diagnosis::Lowest;
 
@@ -8,7 +8,7 @@ use diagnosis::Lowest;
 // eight bytes at once.
 pub(crate) fn set_bits(map: &[u8]) -> usize
     requires { length map.now ≤ 62 }
-    ensures { result ≡ setOf map.now }
+    ensures { result ≡ set_of map.now }
 {
     let mut set: u16 = 0;
     let mut i = 0;
@@ -23,7 +23,7 @@ pub(crate) fn set_bits(map: &[u8]) -> usize
 // those is the module's number at the first byte that has one.
 pub(crate) fn lowest_module(map: &[u8]) -> Lowest
     requires { length map.now ≤ 62 }
-    ensures { result ≡ lowestOf map.now }
+    ensures { result ≡ lowest_of map.now }
 {
     let mut zeros: usize = 0;
     let mut i = 0;

@@ -1,7 +1,7 @@
 // Writing a diagnosis at the front of a lent slice.
 ghost use Rattle.std.specs.Prelude.{◌≡◌, ◌≤◌, length};
-ghost use Rattle.octets.specs.Front.{AtFront, answerBy, heldBy};
-ghost use Rattle.diagnosis.specs.Writing.{headerBytes, diagnosisBytes, verdictOf};
+ghost use Rattle.octets.specs.Front.{AtFront, answer_by, held_by};
+ghost use Rattle.diagnosis.specs.Writing.{header_bytes, diagnosis_bytes, verdict_of};
 
 use diagnosis::{Count, Header};
 use diagnosis_reader::blocks_behind;
@@ -9,7 +9,7 @@ use octets::Written;
 
 fn put_header(header: Header, out: &mut [u8]) -> usize
     requires { 6 ≤ length out.old }
-    ensures { AtFront (headerBytes header) out.old out.new result }
+    ensures { AtFront (header_bytes header) out.old out.new result }
 {
     out[0] = header.status1;
     out[1] = header.status2;
@@ -19,8 +19,8 @@ fn put_header(header: Header, out: &mut [u8]) -> usize
 }
 
 fn put_diagnosis(header: Header, blocks: &[u8], out: &mut [u8]) -> usize
-    requires { length (diagnosisBytes header blocks.now) ≤ length out.old }
-    ensures { AtFront (diagnosisBytes header blocks.now) out.old out.new result }
+    requires { length (diagnosis_bytes header blocks.now) ≤ length out.old }
+    ensures { AtFront (diagnosis_bytes header blocks.now) out.old out.new result }
 {
     let n = put_header(header, out);
     octets::store_behind(n, blocks, out)
@@ -28,8 +28,8 @@ fn put_diagnosis(header: Header, blocks: &[u8], out: &mut [u8]) -> usize
 
 // Writes a diagnosis from its header and the bytes of its blocks.
 pub fn write(header: Header, blocks: &[u8], out: &mut [u8]) -> Written
-    ensures answer { result ≡ answerBy (verdictOf header blocks.now) (diagnosisBytes header blocks.now) (length out.old) }
-    ensures bytes { out.new ≡ heldBy (verdictOf header blocks.now) (diagnosisBytes header blocks.now) out.old }
+    ensures answer { result ≡ answer_by (verdict_of header blocks.now) (diagnosis_bytes header blocks.now) (length out.old) }
+    ensures bytes { out.new ≡ held_by (verdict_of header blocks.now) (diagnosis_bytes header blocks.now) out.old }
 {
     let count = blocks_behind(header, blocks);
     match count {

@@ -1,10 +1,10 @@
 // What is refused of a download before its first sending (document 01, "Template book, printer, download"), as
 // `protocol` defines it.
 ghost use Rattle.std.specs.Prelude.{◌≡◌};
-ghost use Rattle.protocol.specs.Check.{verdictIn};
-ghost use Rattle.protocol.specs.Controller.{bookVerdict};
+ghost use Rattle.protocol.specs.Check.{verdict_in};
+ghost use Rattle.protocol.specs.Controller.{book_verdict};
 ghost use Rattle.book.specs.Reading as book-format;
-ghost use Rattle.protocol.specs.Download.{lineVerdict, verdictOf};
+ghost use Rattle.protocol.specs.Download.{line_verdict, verdict_of};
 ghost use Rattle.protocol.specs.Printer as printer-step;
 
 use book::Reading;
@@ -12,7 +12,7 @@ use protocol::{Check, Printer, Settings};
 
 // The book's own refusal, if it has one.
 fn book_check(book: &[u8]) -> Check
-    ensures { verdictIn result ≡ bookVerdict (book-format.read_of book.now) }
+    ensures { verdict_in result ≡ book_verdict (book-format.read_of book.now) }
 {
     let reading = book_reader::read(book);
     match reading {
@@ -23,7 +23,7 @@ fn book_check(book: &[u8]) -> Check
 
 // Every entry of a line is 0, 1 or 2; any other gives 12.
 fn line_check(line: &[u8]) -> Check
-    ensures { verdictIn result ≡ lineVerdict line.now }
+    ensures { verdict_in result ≡ line_verdict line.now }
 {
     let mut i: usize = 0;
     while i < line.len() {
@@ -48,7 +48,7 @@ pub fn usable(
     reply: &[u8],
     request: &[u8],
 ) -> Check
-    ensures { verdictIn result ≡ verdictOf settings book.now line.now diagnosis.now (printer-step.lending printer lengths.now bodies.now reply.now) request.now }
+    ensures { verdict_in result ≡ verdict_of settings book.now line.now diagnosis.now (printer-step.lending printer lengths.now bodies.now reply.now) request.now }
 {
     let set = controller_state::usable(settings);
     if let Check::Refused(number) = set {

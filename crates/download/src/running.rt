@@ -2,7 +2,7 @@
 ghost use Rattle.std.specs.Prelude.{◌≡◌, length};
 ghost use Rattle.octets.specs.Front.{fine};
 ghost use Rattle.protocol.specs.Printer.{lending};
-ghost use Rattle.protocol.specs.Download.{leaving, verdictOf, downloadOf};
+ghost use Rattle.protocol.specs.Download.{leaving, verdict_of, download_of};
 ghost use Rattle.protocol.specs.Demand.{Downloads};
 
 use crate::check::usable;
@@ -32,9 +32,9 @@ fn until_ended(
     reply: &mut [u8],
     request: &mut [u8],
 ) -> Downloaded
-    requires { verdictOf settings book.now line.now diagnosis.now (lending printer lengths.old bodies.old reply.old) request.old ≡ fine }
+    requires { verdict_of settings book.now line.now diagnosis.now (lending printer lengths.old bodies.old reply.old) request.old ≡ fine }
     ensures { leaving result lengths.new bodies.new reply.new request.new
-        ≡ downloadOf settings book.now line.now not_yet.now diagnosis.now (lending printer lengths.old bodies.old reply.old) request.old }
+        ≡ download_of settings book.now line.now not_yet.now diagnosis.now (lending printer lengths.old bodies.old reply.old) request.old }
 {
     let mut sent: u16 = 0;
     let mut now = Stage {
@@ -113,8 +113,8 @@ pub fn run(
     request: &mut [u8],
 ) -> Downloaded
     ensures whole { leaving result lengths.new bodies.new reply.new request.new
-        ≡ downloadOf settings book.now line.now not_yet.now diagnosis.now (lending printer lengths.old bodies.old reply.old) request.old }
-    ensures demand { verdictOf settings book.now line.now diagnosis.now (lending printer lengths.old bodies.old reply.old) request.old ≡ fine
+        ≡ download_of settings book.now line.now not_yet.now diagnosis.now (lending printer lengths.old bodies.old reply.old) request.old }
+    ensures demand { verdict_of settings book.now line.now diagnosis.now (lending printer lengths.old bodies.old reply.old) request.old ≡ fine
         → Downloads settings book.now line.now not_yet.now diagnosis.now (lending printer lengths.old bodies.old reply.old) (leaving result lengths.new bodies.new reply.new request.new) }
 {
     sixteen(lengths, bodies);

@@ -2,7 +2,7 @@
 // the line does.
 ghost use Rattle.std.specs.Prelude.{◌≡◌, get_or};
 ghost use Rattle.protocol.specs.Printer.{lending, leaving};
-ghost use Rattle.download.specs.Sending.{sentOf, quieted};
+ghost use Rattle.download.specs.Sending.{sent_of, quieted};
 
 use protocol::{Printer, Reaction};
 
@@ -39,7 +39,7 @@ pub fn send(
     reply: &mut [u8],
 ) -> Reaction
     ensures { leaving result lengths.new bodies.new reply.new
-        ≡ sentOf entry request.now not_yet.now diagnosis.now (lending printer lengths.old bodies.old reply.old) }
+        ≡ sent_of entry request.now not_yet.now diagnosis.now (lending printer lengths.old bodies.old reply.old) }
 {
     if 2 < entry {
         return Reaction::Refused(12);

@@ -3,7 +3,7 @@ use Rattle.std.specs.Prelude.{ℕ, Bool, true, false, List, []}
 use Rattle.octets.specs.Part.{part_of}
 use Rattle.octets.specs.Front.{Verdict, fine, fault}
 use Rattle.fdl.specs.Reading.{read_by}
-use Rattle.fdl.specs.Writing.{telegramOf, tokenBytes, confirmationBytes, verdictBy, tokenVerdict}
+use Rattle.fdl.specs.Writing.{telegram_of, token_bytes, confirmation_bytes, verdict_by, token_verdict}
 use Rattle.function_code.specs.declared.code.Class.{Class}
 use Rattle.fdl.specs.declared.telegram.Format.{Format}
 use Rattle.fdl.specs.declared.telegram.Header.{Header}
@@ -17,30 +17,30 @@ pub data Contents : Type 0 where
   telegram : Format → Header → (user : List ℕ) → Contents
 
 -- a reading's fields, and its user data as the part of the bytes that it names
-abbrev pub contentsIn : List ℕ → Reading → Contents
-contentsIn s Confirmation = confirmation
-contentsIn s (Token da sa) = token da sa
-contentsIn s (Telegram f h start len) = telegram f h (part_of s start len)
-contentsIn s (Refused r) = nothing
+abbrev pub contents_in : List ℕ → Reading → Contents
+contents_in s Confirmation = confirmation
+contents_in s (Token da sa) = token da sa
+contents_in s (Telegram f h start len) = telegram f h (part_of s start len)
+contents_in s (Refused r) = nothing
 
 -- the bytes that writing stores for them
-abbrev pub bytesFor : Contents → List ℕ
-bytesFor nothing = []
-bytesFor confirmation = confirmationBytes
-bytesFor (token da sa) = tokenBytes da sa
-bytesFor (telegram f h user) = telegramOf f h user
+abbrev pub bytes_for : Contents → List ℕ
+bytes_for nothing = []
+bytes_for confirmation = confirmation_bytes
+bytes_for (token da sa) = token_bytes da sa
+bytes_for (telegram f h user) = telegram_of f h user
 
 module _ (classes : ℕ → Class) where
   -- whether writing takes them
-  abbrev pub verdictFor : Contents → Verdict
-  verdictFor nothing = fault 12
-  verdictFor confirmation = fine
-  verdictFor (token da sa) = tokenVerdict da sa
-  verdictFor (telegram f h user) = verdictBy classes f h user
+  abbrev pub verdict_for : Contents → Verdict
+  verdict_for nothing = fault 12
+  verdict_for confirmation = fine
+  verdict_for (token da sa) = token_verdict da sa
+  verdict_for (telegram f h user) = verdict_by classes f h user
 
   -- what reading finds
-  abbrev pub contentsOf : List ℕ → Contents
-  contentsOf s = contentsIn s (read_by classes s)
+  abbrev pub contents_of : List ℕ → Contents
+  contents_of s = contents_in s (read_by classes s)
 
 abbrev pub accepted : Reading → Bool
 accepted Confirmation = true
@@ -48,8 +48,8 @@ accepted (Token da sa) = true
 accepted (Telegram f h start len) = true
 accepted (Refused r) = false
 
-abbrev pub isToken : Reading → Bool
-isToken Confirmation = false
-isToken (Token da sa) = true
-isToken (Telegram f h start len) = false
-isToken (Refused r) = false
+abbrev pub is_token : Reading → Bool
+is_token Confirmation = false
+is_token (Token da sa) = true
+is_token (Telegram f h start len) = false
+is_token (Refused r) = false

@@ -7,18 +7,18 @@ use Rattle.fdl.specs.declared.telegram.Sap.TheVariants.{Absent, Present}
 
 -- ---- the start bytes
 
-abbrev pub startByte : Format → ℕ
-startByte Sd1 = 0x10
-startByte Sd2 = 0x68
-startByte Sd3 = 0xA2
+abbrev pub start_byte : Format → ℕ
+start_byte Sd1 = 0x10
+start_byte Sd2 = 0x68
+start_byte Sd3 = 0xA2
 
 -- SD4, with which a token starts
-abbrev pub tokenByte : ℕ
-tokenByte = 0xDC
+abbrev pub token_byte : ℕ
+token_byte = 0xDC
 
 -- SC, which is a short confirmation
-abbrev pub confirmationByte : ℕ
-confirmationByte = 0xE5
+abbrev pub confirmation_byte : ℕ
+confirmation_byte = 0xE5
 
 -- ---- the checksum and the access points
 
@@ -27,10 +27,10 @@ sum_of [] = 0
 sum_of (x ∷ xs) = x + sum_of xs
 
 -- FCS: the sum of DA through the last PDU byte, modulo 256
-unfoldable pub checksumOf : List ℕ → ℕ
-checksumOf core = sum_of core % 256
+unfoldable pub checksum_of : List ℕ → ℕ
+checksum_of core = sum_of core % 256
 
 -- how many bytes of the PDU an access point takes
-abbrev pub sapLength : Sap → ℕ
-sapLength Absent = 0
-sapLength (Present x) = 1
+abbrev pub sap_length : Sap → ℕ
+sap_length Absent = 0
+sap_length (Present x) = 1

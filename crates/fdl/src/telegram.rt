@@ -1,6 +1,6 @@
 // The fields of a telegram, and its checksum.
 ghost use Rattle.std.specs.Prelude.{◌≡◌};
-ghost use Rattle.fdl.specs.Telegram.{sapLength, checksumOf};
+ghost use Rattle.fdl.specs.Telegram.{sap_length, checksum_of};
 
 // The start bytes: of the three formats with fields, of a token, and the short confirmation.
 pub const SD1: u8 = 0x10;
@@ -40,7 +40,7 @@ pub struct Header {
 
 // How many bytes of the PDU an access point takes.
 pub fn sap_length(sap: Sap) -> usize
-    ensures { result ≡ sapLength sap }
+    ensures { result ≡ sap_length sap }
 {
     match sap {
         Sap::Absent => 0,
@@ -50,7 +50,7 @@ pub fn sap_length(sap: Sap) -> usize
 
 // The checksum of DA to the last byte of the PDU.
 pub fn checksum(part: &[u8]) -> u8
-    ensures { result ≡ checksumOf part.now }
+    ensures { result ≡ checksum_of part.now }
 {
     let mut sum: u16 = 0;
     let mut i = 0;

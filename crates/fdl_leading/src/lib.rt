@@ -1,6 +1,6 @@
 // What the bytes in front of DA say: the start byte, and the length bytes of SD2, each refused by a return of its own.
 ghost use Rattle.std.specs.Prelude.{◌≡◌};
-ghost use Rattle.fdl_leading.specs.Leading.{sd2Leading, leadingOf};
+ghost use Rattle.fdl_leading.specs.Leading.{sd2_leading, leading_of};
 
 use fdl::Format;
 use octets::Refusal;
@@ -17,7 +17,7 @@ pub enum Leading {
 
 // The four leading bytes of SD2.
 fn sd2(s: &[u8]) -> Leading
-    ensures { result ≡ sd2Leading s.now }
+    ensures { result ≡ sd2_leading s.now }
 {
     if s.len() < 4 {
         return Leading::Refused(Refusal { number: 1 });
@@ -43,7 +43,7 @@ fn sd2(s: &[u8]) -> Leading
 
 // What the bytes in front of DA say.
 pub fn leading_bytes(s: &[u8]) -> Leading
-    ensures { result ≡ leadingOf s.now }
+    ensures { result ≡ leading_of s.now }
 {
     if s.len() == 0 {
         return Leading::Refused(Refusal { number: 1 });

@@ -3,29 +3,29 @@ use Prim.Native.Nat.{ℕ, ◌+◌, ◌-◌}
 use mathlib.Core.Path.{◌≡◌, refl}
 use mathlib.Core.List.{List}
 use lib.ListN.{get_or}
-use Rattle.function_code.specs.Code.{classOf}
-use Rattle.fdl.specs.Telegram.{sapLength}
-use Rattle.fdl.specs.Reading.{extensionOf, withSource, source_of, withDestination, destinationOf, withClass, classedBy}
+use Rattle.function_code.specs.Code.{class_of}
+use Rattle.fdl.specs.Telegram.{sap_length}
+use Rattle.fdl.specs.Reading.{extension_of, with_source, source_of, with_destination, destination_of, with_class, classed_by}
 use Rattle.fdl.specs.declared.telegram.Format.{Format}
 use Rattle.fdl.specs.declared.telegram.Sap.{Sap}
 use Rattle.fdl.specs.declared.reading.Extension.{Extension}
 use Rattle.fdl.specs.declared.reading.Extension.TheVariants.{Is, Refused}
 
-source-class :
+source_class :
     (e : Extension) (f : Format) (da sa fc : ℕ) (dsap : Sap) (start len : ℕ) →
-    let r = withSource e f da sa fc dsap start len in
-    withClass (classOf fc) r ≡ classedBy classOf r
-source-class (Refused r) f da sa fc dsap start len = refl
-source-class (Is ssap) f da sa fc dsap start len = refl
+    let r = with_source e f da sa fc dsap start len in
+    with_class (class_of fc) r ≡ classed_by class_of r
+source_class (Refused r) f da sa fc dsap start len = refl
+source_class (Is ssap) f da sa fc dsap start len = refl
 
 module _ (s : List ℕ) (f : Format) (at pdu : ℕ) where
-  destination-class : (e : Extension) → let r = withDestination e s f at pdu in withClass (classOf (get_or s (at + 2) 0)) r ≡ classedBy classOf r
+  destination_class : (e : Extension) → let r = with_destination e s f at pdu in with_class (class_of (get_or s (at + 2) 0)) r ≡ classed_by class_of r
   unfolding source_of
-  destination-class (Refused r) = refl
-  destination-class (Is dsap) =
-      source-class (extensionOf s (get_or s (at + 1) 0) (at + 3 + sapLength dsap) (pdu - sapLength dsap)) f (get_or s at 0) (get_or s (at + 1) 0) (get_or s (at + 2) 0) dsap
-      (at + 3 + sapLength dsap) (pdu - sapLength dsap)
+  destination_class (Refused r) = refl
+  destination_class (Is dsap) =
+      source_class (extension_of s (get_or s (at + 1) 0) (at + 3 + sap_length dsap) (pdu - sap_length dsap)) f (get_or s at 0) (get_or s (at + 1) 0) (get_or s (at + 2) 0) dsap
+      (at + 3 + sap_length dsap) (pdu - sap_length dsap)
 
-  pub code-class : let r = destinationOf s f at pdu in withClass (classOf (get_or s (at + 2) 0)) r ≡ classedBy classOf r
-  unfolding destinationOf
-  code-class = destination-class (extensionOf s (get_or s at 0) (at + 3) pdu)
+  pub code_class : let r = destination_of s f at pdu in with_class (class_of (get_or s (at + 2) 0)) r ≡ classed_by class_of r
+  unfolding destination_of
+  code_class = destination_class (extension_of s (get_or s at 0) (at + 3) pdu)

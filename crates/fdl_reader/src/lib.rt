@@ -1,9 +1,9 @@
 // Reading a telegram: each byte that can be refused has its own answer, in document 01's order. `access_point` and
 // `token` answer at one place, and not by returns: so the compiler keeps what they answer in registers.
 ghost use Rattle.std.specs.Prelude.{◌≡◌, ◌+◌, ◌≤◌, length};
-ghost use Rattle.function_code.specs.Code.{classOf, isReserved};
-ghost use Rattle.fdl.specs.Reading.{extensionOf, source_of, destinationOf, fields_of, framedOf, tokenOf, read_of, withClass, classedBy, classedOf};
-ghost use Rattle.fdl_leading.specs.Leading.{placeOf};
+ghost use Rattle.function_code.specs.Code.{class_of, is_reserved};
+ghost use Rattle.fdl.specs.Reading.{extension_of, source_of, destination_of, fields_of, framed_of, token_of, read_of, with_class, classed_by, classed_of};
+ghost use Rattle.fdl_leading.specs.Leading.{place_of};
 
 use fdl::{Classed, Extension, Format, Header, Reading, Sap, checksum, sap_length};
 use fdl_leading::Leading;
@@ -13,7 +13,7 @@ use octets::Refusal;
 // The access point that belongs to an address byte, of a PDU of which len bytes from start are left.
 fn access_point(s: &[u8], address: u8, start: usize, len: usize) -> Extension
     requires { start + len ≤ length s.now }
-    ensures { result ≡ extensionOf s.now address start len }
+    ensures { result ≡ extension_of s.now address start len }
 {
     if address < 128 {
         Extension::Is(Sap::Absent)
@@ -40,7 +40,7 @@ fn source(
     len: usize,
 ) -> Classed
     requires { (at + 3 ≤ start) × (start + len + 2 ≡ length s.now) }
-    ensures { result ≡ withClass class (source_of s.now format at dsap start len) }
+    ensures { result ≡ with_class class (source_of s.now format at dsap start len) }
 {
     let da = s[at];
     let sa = s[at + 1];
@@ -71,7 +71,7 @@ fn source(
 // DA's access point.
 fn destination(s: &[u8], format: Format, at: usize, class: Class, pdu: usize) -> Classed
     requires { at + pdu + 5 ≡ length s.now }
-    ensures { result ≡ withClass class (destinationOf s.now format at pdu) }
+    ensures { result ≡ with_class class (destination_of s.now format at pdu) }
 {
     let da = s[at];
     let found = access_point(s, da, at + 3, pdu);
@@ -85,7 +85,7 @@ fn destination(s: &[u8], format: Format, at: usize, class: Class, pdu: usize) ->
 }
 
 fn is_reserved(class: Class) -> bool
-    ensures { result ≡ isReserved class }
+    ensures { result ≡ is_reserved class }
 {
     match class {
         Class::Opening => false,
@@ -100,7 +100,7 @@ fn is_reserved(class: Class) -> bool
 // SA's range and the function code, whose class is looked up here and nowhere else. (DA's seven bits are all in range.)
 fn fields(s: &[u8], format: Format, at: usize, pdu: usize) -> Classed
     requires { at + pdu + 5 ≡ length s.now }
-    ensures { result ≡ classedBy classOf (fields_of classOf s.now format at pdu) }
+    ensures { result ≡ classed_by class_of (fields_of class_of s.now format at pdu) }
 {
     let sa = s[at + 1];
     if sa % 128 == 127 {
@@ -117,7 +117,7 @@ fn fields(s: &[u8], format: Format, at: usize, pdu: usize) -> Classed
 // Length, end byte and checksum of a telegram whose DA stands at `at` and whose PDU has pdu bytes.
 fn framed(s: &[u8], format: Format, at: usize, pdu: usize) -> Classed
     requires { (at ≤ 4) × (pdu ≤ 246) }
-    ensures { result ≡ classedBy classOf (framedOf classOf s.now format at pdu) }
+    ensures { result ≡ classed_by class_of (framed_of class_of s.now format at pdu) }
 {
     let total = at + pdu + 5;
     if s.len() < total {
@@ -138,7 +138,7 @@ fn framed(s: &[u8], format: Format, at: usize, pdu: usize) -> Classed
 
 // A token's addresses, bit 7 counted.
 fn token(s: &[u8]) -> Classed
-    ensures { result ≡ classedBy classOf (tokenOf s.now) }
+    ensures { result ≡ classed_by class_of (token_of s.now) }
 {
     if s.len() < 3 {
         Classed::Refused(Refusal { number: 1 })
@@ -159,7 +159,7 @@ fn token(s: &[u8]) -> Classed
 
 // Where DA stands.
 fn place_of(format: Format) -> usize
-    ensures { result ≡ placeOf format }
+    ensures { result ≡ place_of format }
 {
     match format {
         Format::Sd1 => 1,
@@ -171,7 +171,7 @@ fn place_of(format: Format) -> usize
 // Reads a telegram, with the class of its function code: all of the lent slice is one. The frame is looked at in one
 // place, for all formats: called once, it is compiled into this function, and its answer is not copied.
 pub fn read_classed(bytes: &[u8]) -> Classed
-    ensures { result ≡ classedOf bytes.now }
+    ensures { result ≡ classed_of bytes.now }
 {
     let found = fdl_leading::leading_bytes(bytes);
     match found {

@@ -1,10 +1,10 @@
 // Writing a telegram with fields at the front of a lent slice (document 01, "Telegram layouts"), held to the
 // definitions of the crate fdl.
 ghost use Rattle.std.specs.Prelude.{◌≡◌, ◌++◌, ◌∷◌, [], ◌+◌, ◌≤◌, length, take, drop};
-ghost use Rattle.octets.specs.Front.{AtFront, answerBy, heldBy};
-ghost use Rattle.fdl.specs.Telegram.{sum_of, checksumOf};
-ghost use Rattle.fdl.specs.Writing.{startBytes, sapBytes, addressBytes, core_of, closedOf, telegramOf, userStart, verdictOf};
-ghost use Rattle.fdl.specs.Around.{userIn, headBytes};
+ghost use Rattle.octets.specs.Front.{AtFront, answer_by, held_by};
+ghost use Rattle.fdl.specs.Telegram.{sum_of, checksum_of};
+ghost use Rattle.fdl.specs.Writing.{start_bytes, sap_bytes, address_bytes, core_of, closed_of, telegram_of, user_start, verdict_of};
+ghost use Rattle.fdl.specs.Around.{user_in, head_bytes};
 
 use fdl::{Format, Header, Sap, checksum, sap_length};
 use framing::{user_start, writable};
@@ -12,8 +12,8 @@ use octets::Written;
 
 // LE: how many bytes stand from DA to the last of the user data.
 fn length_byte(header: Header, len: usize) -> u8
-    requires { length (headBytes header) + len ≤ 249 }
-    ensures { result ≡ length (headBytes header) + len }
+    requires { length (head_bytes header) + len ≤ 249 }
+    ensures { result ≡ length (head_bytes header) + len }
 {
     let dsap = header.dsap;
     let ssap = header.ssap;
@@ -21,8 +21,8 @@ fn length_byte(header: Header, len: usize) -> u8
 }
 
 fn put_start(format: Format, le: u8, out: &mut [u8]) -> usize
-    requires { length (startBytes format le) ≤ length out.old }
-    ensures { AtFront (startBytes format le) out.old out.new result }
+    requires { length (start_bytes format le) ≤ length out.old }
+    ensures { AtFront (start_bytes format le) out.old out.new result }
 {
     match format {
         Format::Sd1 => {
@@ -45,7 +45,7 @@ fn put_start(format: Format, le: u8, out: &mut [u8]) -> usize
 
 fn put_addresses(header: Header, out: &mut [u8]) -> usize
     requires { (header.da ≤ 127) × (header.sa ≤ 126) × (3 ≤ length out.old) }
-    ensures { AtFront (addressBytes header) out.old out.new result }
+    ensures { AtFront (address_bytes header) out.old out.new result }
 {
     let dsap = header.dsap;
     let ssap = header.ssap;
@@ -58,8 +58,8 @@ fn put_addresses(header: Header, out: &mut [u8]) -> usize
 }
 
 fn put_sap(sap: Sap, out: &mut [u8]) -> usize
-    requires { length (sapBytes sap) ≤ length out.old }
-    ensures { AtFront (sapBytes sap) out.old out.new result }
+    requires { length (sap_bytes sap) ≤ length out.old }
+    ensures { AtFront (sap_bytes sap) out.old out.new result }
 {
     match sap {
         Sap::Absent => 0,
@@ -71,8 +71,8 @@ fn put_sap(sap: Sap, out: &mut [u8]) -> usize
 }
 
 fn put_saps(dsap: Sap, ssap: Sap, out: &mut [u8]) -> usize
-    requires { length (sapBytes dsap ++ sapBytes ssap) ≤ length out.old }
-    ensures { AtFront (sapBytes dsap ++ sapBytes ssap) out.old out.new result }
+    requires { length (sap_bytes dsap ++ sap_bytes ssap) ≤ length out.old }
+    ensures { AtFront (sap_bytes dsap ++ sap_bytes ssap) out.old out.new result }
 {
     let n = put_sap(dsap, out);
     n + put_sap(ssap, &mut out[n..])
@@ -80,8 +80,8 @@ fn put_saps(dsap: Sap, ssap: Sap, out: &mut [u8]) -> usize
 
 // Stores DA to the last access point: what stands between the start and the user data.
 fn put_head(header: Header, out: &mut [u8]) -> usize
-    requires { (header.da ≤ 127) × (header.sa ≤ 126) × (length (headBytes header) ≤ length out.old) }
-    ensures { AtFront (headBytes header) out.old out.new result }
+    requires { (header.da ≤ 127) × (header.sa ≤ 126) × (length (head_bytes header) ≤ length out.old) }
+    ensures { AtFront (head_bytes header) out.old out.new result }
 {
     let dsap = header.dsap;
     let ssap = header.ssap;
@@ -90,7 +90,7 @@ fn put_head(header: Header, out: &mut [u8]) -> usize
 }
 
 fn sap_sum(sap: Sap) -> u8
-    ensures { result ≡ sum_of (sapBytes sap) }
+    ensures { result ≡ sum_of (sap_bytes sap) }
 {
     match sap {
         Sap::Absent => 0,
@@ -101,7 +101,7 @@ fn sap_sum(sap: Sap) -> u8
 // The checksum of DA to the last access point. It is taken from the fields: loads of bytes that were stored
 // just before in pieces would have to wait for them.
 fn head_sum(header: Header) -> u8
-    ensures { result ≡ checksumOf (headBytes header) }
+    ensures { result ≡ checksum_of (head_bytes header) }
 {
     let dsap = header.dsap;
     let ssap = header.ssap;
@@ -123,8 +123,8 @@ fn put_end(n: usize, fcs: u8, out: &mut [u8])
 // Makes DA to the end byte around the len bytes of user data, which stand in their place already and have
 // this checksum.
 fn put_closed(header: Header, sum: u8, len: usize, out: &mut [u8]) -> usize
-    requires { (header.da ≤ 127) × (header.sa ≤ 126) × (length (headBytes header) + len ≤ 249) × (length (headBytes header) + len + 2 ≤ length out.old) × (sum ≡ checksumOf (take len (drop (length (headBytes header)) out.old))) }
-    ensures { AtFront (closedOf (core_of header (take len (drop (length (headBytes header)) out.old)))) out.old out.new result }
+    requires { (header.da ≤ 127) × (header.sa ≤ 126) × (length (head_bytes header) + len ≤ 249) × (length (head_bytes header) + len + 2 ≤ length out.old) × (sum ≡ checksum_of (take len (drop (length (head_bytes header)) out.old))) }
+    ensures { AtFront (closed_of (core_of header (take len (drop (length (head_bytes header)) out.old)))) out.old out.new result }
 {
     let fcs = ((head_sum(header) as u16 + sum as u16) % 256) as u8;
     let n = put_head(header, out) + len;
@@ -135,8 +135,8 @@ fn put_closed(header: Header, sum: u8, len: usize, out: &mut [u8]) -> usize
 // Makes a whole telegram around the len bytes of user data, which stand in their place already and have this
 // checksum.
 fn put_around(format: Format, header: Header, sum: u8, len: usize, out: &mut [u8]) -> usize
-    requires { (header.da ≤ 127) × (header.sa ≤ 126) × (length (headBytes header) + len ≤ 249) × (userStart format header + len + 2 ≤ length out.old) × (sum ≡ checksumOf (userIn format header len out.old)) }
-    ensures { AtFront (telegramOf format header (userIn format header len out.old)) out.old out.new result }
+    requires { (header.da ≤ 127) × (header.sa ≤ 126) × (length (head_bytes header) + len ≤ 249) × (user_start format header + len + 2 ≤ length out.old) × (sum ≡ checksum_of (user_in format header len out.old)) }
+    ensures { AtFront (telegram_of format header (user_in format header len out.old)) out.old out.new result }
 {
     let le = length_byte(header, len);
     let n = put_start(format, le, out);
@@ -145,8 +145,8 @@ fn put_around(format: Format, header: Header, sum: u8, len: usize, out: &mut [u8
 
 // Writes a telegram from its fields and user data.
 pub fn write(format: Format, header: Header, user: &[u8], out: &mut [u8]) -> Written
-    ensures answer { result ≡ answerBy (verdictOf format header user.now) (telegramOf format header user.now) (length out.old) }
-    ensures bytes { out.new ≡ heldBy (verdictOf format header user.now) (telegramOf format header user.now) out.old }
+    ensures answer { result ≡ answer_by (verdict_of format header user.now) (telegram_of format header user.now) (length out.old) }
+    ensures bytes { out.new ≡ held_by (verdict_of format header user.now) (telegram_of format header user.now) out.old }
 {
     let len = user.len();
     if !writable(format, header, len) {
@@ -164,8 +164,8 @@ pub fn write(format: Format, header: Header, user: &[u8], out: &mut [u8]) -> Wri
 // Writes a telegram around len bytes of user data that the caller has put into out from
 // `user_start` on. They are not copied, and stay where they are.
 pub fn write_around(format: Format, header: Header, len: usize, out: &mut [u8]) -> Written
-    ensures answer { result ≡ answerBy (verdictOf format header (userIn format header len out.old)) (telegramOf format header (userIn format header len out.old)) (length out.old) }
-    ensures bytes { out.new ≡ heldBy (verdictOf format header (userIn format header len out.old)) (telegramOf format header (userIn format header len out.old)) out.old }
+    ensures answer { result ≡ answer_by (verdict_of format header (user_in format header len out.old)) (telegram_of format header (user_in format header len out.old)) (length out.old) }
+    ensures bytes { out.new ≡ held_by (verdict_of format header (user_in format header len out.old)) (telegram_of format header (user_in format header len out.old)) out.old }
 {
     if !writable(format, header, len) {
         return Written::Refused(12);

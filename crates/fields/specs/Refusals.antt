@@ -2,26 +2,26 @@
 use Rattle.std.specs.Prelude.{ℕ, ◌≡◌, refl, Bool, true, false, List, leb, length}
 use Rattle.std.proofs.Common.{sym, ◌∙◌, eq-eqb}
 use Rattle.octets.specs.Choice.{pick, ◌and◌, never}
-use Rattle.octets.specs.Front.{Verdict, fine, fault, answerBy}
-use Rattle.octets.specs.Refusals.{listed, numbered, isFine, Status, listed-not-zero, zero-accepted, listed-refused}
+use Rattle.octets.specs.Front.{Verdict, fine, fault, answer_by}
+use Rattle.octets.specs.Refusals.{listed, numbered, is_fine, Status, listed_not_zero, zero_accepted, listed_refused}
 use Rattle.octets.specs.declared.Written.TheVariants.{Stored, Refused}
-use Rattle.fields.specs.Outcome.{statusOf, Tells}
+use Rattle.fields.specs.Outcome.{status_of, Tells}
 
 -- fields that may be written, with room for their bytes
 abbrev pub is_written : Verdict → (t : List ℕ) (room : ℕ) → Bool
-is_written v t room = isFine v and leb (length t) room
+is_written v t room = is_fine v and leb (length t) room
 
-room-status : (fits : Bool) (n : ℕ) → Status fits (statusOf (pick fits (Stored n) (Refused 11)))
+room_status : (fits : Bool) (n : ℕ) → Status fits (status_of (pick fits (Stored n) (Refused 11)))
 unfolding listed
-room-status true n = zero-accepted
-room-status false n = listed-refused refl
+room_status true n = zero_accepted
+room_status false n = listed_refused refl
 
-pub written-status : (v : Verdict) (t : List ℕ) (room : ℕ) → numbered v ≡ true → Status (is_written v t room) (statusOf (answerBy v t room))
-unfolding answerBy
-written-status fine t room h = room-status (leb (length t) room) (length t)
-written-status (fault k) t room h = listed-refused h
+pub written_status : (v : Verdict) (t : List ℕ) (room : ℕ) → numbered v ≡ true → Status (is_written v t room) (status_of (answer_by v t room))
+unfolding answer_by
+written_status fine t room h = room_status (leb (length t) room) (length t)
+written_status (fault k) t room h = listed_refused h
 
 -- A verdict whose number is one of the table's tells its fault by a number that is not 0.
 pub tells : (v : Verdict) → numbered v ≡ true → Tells v
 tells fine h = tt
-tells (fault k) h = λ z. never (sym (listed-not-zero k h) ∙ eq-eqb k 0 z)
+tells (fault k) h = λ z. never (sym (listed_not_zero k h) ∙ eq-eqb k 0 z)

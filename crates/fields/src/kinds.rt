@@ -1,6 +1,6 @@
 // Kinds of telegram as the numbers that the C interface has of them.
 ghost use Rattle.std.specs.Prelude.{◌≡◌};
-ghost use Rattle.fields.specs.Kinds.{formatNumber, kind_of};
+ghost use Rattle.fields.specs.Kinds.{format_number, kind_of};
 
 use fdl::Format;
 
@@ -14,7 +14,7 @@ pub enum Kind {
 }
 
 pub fn format_number(format: Format) -> u8
-    ensures { result ≡ formatNumber format }
+    ensures { result ≡ format_number format }
 {
     match format {
         Format::Sd1 => 2,

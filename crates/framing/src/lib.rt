@@ -1,18 +1,18 @@
 // Which fields a telegram may be written with (document 01, "Telegram layouts"), where its user data begin,
 // and the telegrams without fields, token and short confirmation. The crate fdl_writer writes those with fields.
 ghost use Rattle.std.specs.Prelude.{◌≡◌, ◌+◌, length};
-ghost use Rattle.octets.specs.Front.{fine, answerBy, heldBy};
-ghost use Rattle.function_code.specs.Code.{classOf};
-ghost use Rattle.fdl.specs.Telegram.{sapLength};
-ghost use Rattle.fdl.specs.Writing.{goodSap, goodHeader, goodLength, startBytes, userStart, tokenBytes, tokenVerdict, confirmationBytes};
-ghost use Rattle.fdl.specs.Around.{goodFields};
+ghost use Rattle.octets.specs.Front.{fine, answer_by, held_by};
+ghost use Rattle.function_code.specs.Code.{class_of};
+ghost use Rattle.fdl.specs.Telegram.{sap_length};
+ghost use Rattle.fdl.specs.Writing.{good_sap, good_header, good_length, start_bytes, user_start, token_bytes, token_verdict, confirmation_bytes};
+ghost use Rattle.fdl.specs.Around.{good_fields};
 
 use fdl::{Format, Header, Sap, sap_length};
 use function_code::reserved;
 use octets::Written;
 
 fn good_sap(sap: Sap) -> bool
-    ensures { result ≡ goodSap sap }
+    ensures { result ≡ good_sap sap }
 {
     match sap {
         Sap::Absent => true,
@@ -21,7 +21,7 @@ fn good_sap(sap: Sap) -> bool
 }
 
 fn good_header(header: Header) -> bool
-    ensures { result ≡ goodHeader classOf header }
+    ensures { result ≡ good_header class_of header }
 {
     if 127 < header.da {
         return false;
@@ -41,7 +41,7 @@ fn good_header(header: Header) -> bool
 }
 
 fn good_length(format: Format, pdu: usize) -> bool
-    ensures { result ≡ goodLength format pdu }
+    ensures { result ≡ good_length format pdu }
 {
     match format {
         Format::Sd1 => pdu == 0,
@@ -51,7 +51,7 @@ fn good_length(format: Format, pdu: usize) -> bool
 }
 
 fn start_length(format: Format) -> usize
-    ensures { result ≡ length (startBytes format 0) }
+    ensures { result ≡ length (start_bytes format 0) }
 {
     match format {
         Format::Sd1 => 1,
@@ -62,7 +62,7 @@ fn start_length(format: Format) -> usize
 
 // How many bytes of the PDU both access points take.
 fn saps_length(header: Header) -> usize
-    ensures { result ≡ sapLength header.dsap + sapLength header.ssap }
+    ensures { result ≡ sap_length header.dsap + sap_length header.ssap }
 {
     let dsap = header.dsap;
     let ssap = header.ssap;
@@ -72,7 +72,7 @@ fn saps_length(header: Header) -> usize
 // Whether these fields may be written with len bytes of user data. No PDU is longer than 246 bytes:
 // that test keeps the sum within its bits.
 pub fn writable(format: Format, header: Header, len: usize) -> bool
-    ensures { result ≡ goodFields format header len }
+    ensures { result ≡ good_fields format header len }
 {
     if !good_header(header) {
         return false;
@@ -86,7 +86,7 @@ pub fn writable(format: Format, header: Header, len: usize) -> bool
 // Whether these fields may be written with user data of fixed bytes and part more. No PDU is longer than 246
 // bytes: both tests keep the sum within its bits.
 pub fn writable_with(format: Format, header: Header, fixed: usize, part: usize) -> bool
-    ensures { result ≡ goodFields format header (fixed + part) }
+    ensures { result ≡ good_fields format header (fixed + part) }
 {
     if 246 < fixed {
         return false;
@@ -99,15 +99,15 @@ pub fn writable_with(format: Format, header: Header, fixed: usize, part: usize) 
 
 // Where the user data of a telegram with these fields begin.
 pub fn user_start(format: Format, header: Header) -> usize
-    ensures { result ≡ userStart format header }
+    ensures { result ≡ user_start format header }
 {
     start_length(format) + 3 + saps_length(header)
 }
 
 // Writes a token.
 pub fn write_token(da: u8, sa: u8, out: &mut [u8]) -> Written
-    ensures answer { result ≡ answerBy (tokenVerdict da sa) (tokenBytes da sa) (length out.old) }
-    ensures bytes { out.new ≡ heldBy (tokenVerdict da sa) (tokenBytes da sa) out.old }
+    ensures answer { result ≡ answer_by (token_verdict da sa) (token_bytes da sa) (length out.old) }
+    ensures bytes { out.new ≡ held_by (token_verdict da sa) (token_bytes da sa) out.old }
 {
     if 126 < da {
         return Written::Refused(12);
@@ -126,8 +126,8 @@ pub fn write_token(da: u8, sa: u8, out: &mut [u8]) -> Written
 
 // Writes a short confirmation.
 pub fn write_confirmation(out: &mut [u8]) -> Written
-    ensures answer { result ≡ answerBy fine confirmationBytes (length out.old) }
-    ensures bytes { out.new ≡ heldBy fine confirmationBytes out.old }
+    ensures answer { result ≡ answer_by fine confirmation_bytes (length out.old) }
+    ensures bytes { out.new ≡ held_by fine confirmation_bytes out.old }
 {
     if out.len() < 1 {
         return Written::Refused(11);

@@ -18,22 +18,22 @@ answer_of function =
     pick (one_of function (0 ∷ 1 ∷ 2 ∷ 3 ∷ 9 ∷ [])) Bare (pick (one_of function (8 ∷ 10 ∷ 12 ∷ 13 ∷ [])) Data Reserved)
 
 -- With bit 7 set only C0, the clock value, is not reserved. Bit 6 tells a call from an answer.
-unfoldable pub classOf : ℕ → Class
-classOf fc =
+unfoldable pub class_of : ℕ → Class
+class_of fc =
     pick (eqb (fc / 128 % 2) 1) (pick (eqb fc 0xC0) Uncounted Reserved)
     (pick (eqb (fc / 64 % 2) 1) (call_of (fc % 16) (fc / 16 % 2) (fc / 32 % 2)) (answer_of (fc % 16)))
 
 -- the number of each class, as the table has it
-abbrev pub classNumber : Class → ℕ
-classNumber Opening = 0
-classNumber Counted = 1
-classNumber Uncounted = 2
-classNumber Bare = 3
-classNumber Data = 4
-classNumber Reserved = 5
+abbrev pub class_number : Class → ℕ
+class_number Opening = 0
+class_number Counted = 1
+class_number Uncounted = 2
+class_number Bare = 3
+class_number Data = 4
+class_number Reserved = 5
 
-abbrev pub isReserved : Class → Bool
-isReserved c = eqb (classNumber c) (classNumber Reserved)
+abbrev pub is_reserved : Class → Bool
+is_reserved c = eqb (class_number c) (class_number Reserved)
 
 -- what a table has at a function code
 pub record Entry (table : List ℕ) (fc n : ℕ) : Type 0 where

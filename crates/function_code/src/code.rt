@@ -1,6 +1,6 @@
 // Function codes: every byte has one class.
 ghost use Rattle.std.specs.Prelude.{◌≡◌};
-ghost use Rattle.function_code.specs.Code.{classOf, isReserved};
+ghost use Rattle.function_code.specs.Code.{class_of, is_reserved};
 
 use crate::table::{BARE, COUNTED, DATA, OPENING, RESERVED, UNCOUNTED, class_number};
 
@@ -19,7 +19,7 @@ pub enum Class {
 
 // The class of a function code.
 pub fn class_of(fc: u8) -> Class
-    ensures { result ≡ classOf fc }
+    ensures { result ≡ class_of fc }
 {
     let number = class_number(fc);
     match number {
@@ -34,7 +34,7 @@ pub fn class_of(fc: u8) -> Class
 
 // Whether a function code is reserved.
 pub fn reserved(fc: u8) -> bool
-    ensures { result ≡ isReserved (classOf fc) }
+    ensures { result ≡ is_reserved (class_of fc) }
 {
     class_number(fc) == RESERVED
 }

@@ -1,6 +1,6 @@
 // The table of function code classes, and its look-up.
 ghost use Rattle.std.specs.Prelude.{◌≡◌};
-ghost use Rattle.function_code.specs.Code.{classOf, classNumber, Entry};
+ghost use Rattle.function_code.specs.Code.{class_of, class_number, Entry};
 
 // The numbers of the classes, as the table has them.
 pub(crate) const OPENING: u8 = 0;
@@ -284,7 +284,7 @@ fn entry(table: &[u8; 256], fc: u8) -> u8
 
 // The number of a function code's class.
 pub(crate) fn class_number(fc: u8) -> u8
-    ensures { result ≡ classNumber (classOf fc) }
+    ensures { result ≡ class_number (class_of fc) }
 {
     entry(&CLASSES, fc)
 }

@@ -5,10 +5,10 @@ abbrev pub bit_of : Bool → ℕ
 bit_of true = 1
 bit_of false = 0
 
-pub bit-low : (b : Bool) → ltb 1 (bit_of b) ≡ false
-bit-low true = refl
-bit-low false = refl
+pub bit_low : (b : Bool) → ltb 1 (bit_of b) ≡ false
+bit_low true = refl
+bit_low false = refl
 
-pub bit-again : (b : Bool) → eqb (bit_of b) 1 ≡ b
-bit-again true = refl
-bit-again false = refl
+pub bit_again : (b : Bool) → eqb (bit_of b) 1 ≡ b
+bit_again true = refl
+bit_again false = refl

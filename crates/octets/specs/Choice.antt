@@ -23,9 +23,9 @@ one_of x [] = false
 one_of x (y ∷ ys) = eqb x y or one_of x ys
 
 -- what holds of both choices, each under its test, holds of the choice
-pub by-pick : {A : Type 0} (P : A → Type 0) (b : Bool) {x y : A} → (b ≡ true → P x) → (b ≡ false → P y) → P (pick b x y)
-by-pick P true p q = p refl
-by-pick P false p q = q refl
+pub by_pick : {A : Type 0} (P : A → Type 0) (b : Bool) {x y : A} → (b ≡ true → P x) → (b ≡ false → P y) → P (pick b x y)
+by_pick P true p q = p refl
+by_pick P false p q = q refl
 
 -- what a function makes of a choice is the choice of what it makes of both
 pub through : {A B : Type 0} (f : A → B) (b : Bool) (x y : A) → f (pick b x y) ≡ pick b (f x) (f y)
@@ -45,9 +45,9 @@ and_right true b e = e
 and_right false b e = cc
 
 -- what follows from either of two tests follows where one of them holds
-pub by-or : {A : Type 0} (a b : Bool) → (a or b) ≡ true → (a ≡ true → A) → (b ≡ true → A) → A
-by-or true b e f g = f refl
-by-or false b e f g = g e
+pub by_or : {A : Type 0} (a b : Bool) → (a or b) ≡ true → (a ≡ true → A) → (b ≡ true → A) → A
+by_or true b e f g = f refl
+by_or false b e f g = g e
 
 pub never : false ≡ true → ⊥
 never e = let z : ◌≡◌ {A = ℕ} 0 1 = cc in omega arith

@@ -21,15 +21,15 @@ over p l = p ++ drop (length p) l
 unfoldable pub count_of : (p l : List ℕ) → ℕ
 count_of p l = pick (leb (length p) (length l)) (length p) 0
 
-unfoldable pub frontOf : (p l : List ℕ) → List ℕ
-frontOf p l = pick (leb (length p) (length l)) (over p l) l
+unfoldable pub front_of : (p l : List ℕ) → List ℕ
+front_of p l = pick (leb (length p) (length l)) (over p l) l
 
 -- Storing q behind the first n bytes of l, all of it or nothing: how many bytes then stand in front, and what l holds then.
-unfoldable pub countBehind : (n : ℕ) (q l : List ℕ) → ℕ
-countBehind n q l = pick (leb (n + length q) (length l)) (n + length q) 0
+unfoldable pub count_behind : (n : ℕ) (q l : List ℕ) → ℕ
+count_behind n q l = pick (leb (n + length q) (length l)) (n + length q) 0
 
-unfoldable pub heldBehind : (n : ℕ) (q l : List ℕ) → List ℕ
-heldBehind n q l = pick (leb (n + length q) (length l)) (take n l ++ q ++ drop (n + length q) l) l
+unfoldable pub held_behind : (n : ℕ) (q l : List ℕ) → List ℕ
+held_behind n q l = pick (leb (n + length q) (length l)) (take n l ++ q ++ drop (n + length q) l) l
 
 -- what a storing function did that was given room: p stands in front, and its length was answered
 pub record AtFront (p before after : List ℕ) (count : ℕ) : Type 0 where
@@ -43,33 +43,33 @@ pub data Verdict : Type 0 where
 
 -- A writer of the bytes t: its answer at a lent slice of so many bytes, and what that slice holds then. The number of a
 -- bad field comes first, 11 for too small a slice last, and a refusal stores nothing.
-unfoldable pub answerBy : Verdict → (t : List ℕ) (room : ℕ) → Written
-answerBy fine t room = pick (leb (length t) room) (Stored (length t)) (Refused 11)
-answerBy (fault k) t room = Refused k
+unfoldable pub answer_by : Verdict → (t : List ℕ) (room : ℕ) → Written
+answer_by fine t room = pick (leb (length t) room) (Stored (length t)) (Refused 11)
+answer_by (fault k) t room = Refused k
 
-unfoldable pub heldBy : Verdict → (t out : List ℕ) → List ℕ
-heldBy fine t out = pick (leb (length t) (length out)) (over t out) out
-heldBy (fault k) t out = out
+unfoldable pub held_by : Verdict → (t out : List ℕ) → List ℕ
+held_by fine t out = pick (leb (length t) (length out)) (over t out) out
+held_by (fault k) t out = out
 
 -- ---- laws
 
 -- what does not fit, and what fits
-pub none-stored : (p l : List ℕ) → length l < length p → (0 ≡ count_of p l) × (l ≡ frontOf p l)
-unfolding count_of frontOf
-none-stored p l h = (simp (lt-leb _ _ h), simp (lt-leb _ _ h))
+pub none_stored : (p l : List ℕ) → length l < length p → (0 ≡ count_of p l) × (l ≡ front_of p l)
+unfolding count_of front_of
+none_stored p l h = (simp (lt-leb _ _ h), simp (lt-leb _ _ h))
 
-pub all-stored : {p l after : List ℕ} {count : ℕ} → length p ≤ length l → AtFront p l after count → (count ≡ count_of p l) × (after ≡ frontOf p l)
-unfolding count_of frontOf
-all-stored h f = (simp (le-leb _ _ h) f.counted, simp (le-leb _ _ h) f.bytes)
+pub all_stored : {p l after : List ℕ} {count : ℕ} → length p ≤ length l → AtFront p l after count → (count ≡ count_of p l) × (after ≡ front_of p l)
+unfolding count_of front_of
+all_stored h f = (simp (le-leb _ _ h) f.counted, simp (le-leb _ _ h) f.bytes)
 
-pub none-behind : (n : ℕ) (q l : List ℕ) → length l < n + length q → (0 ≡ countBehind n q l) × (l ≡ heldBehind n q l)
-unfolding countBehind heldBehind
-none-behind n q l h = (simp (lt-leb _ _ h), simp (lt-leb _ _ h))
+pub none_behind : (n : ℕ) (q l : List ℕ) → length l < n + length q → (0 ≡ count_behind n q l) × (l ≡ held_behind n q l)
+unfolding count_behind held_behind
+none_behind n q l h = (simp (lt-leb _ _ h), simp (lt-leb _ _ h))
 
 -- q stored behind the first n bytes leaves l as long as it was
-pub held-length : (n : ℕ) (q l : List ℕ) → n + length q ≤ length l → length (heldBehind n q l) ≡ length l
-unfolding heldBehind
-held-length n q l h = simp (le-leb _ _ h, length-append, length-take-le n l (omega arith), length-drop) (omega arith)
+pub held_length : (n : ℕ) (q l : List ℕ) → n + length q ≤ length l → length (held_behind n q l) ≡ length l
+unfolding held_behind
+held_length n q l h = simp (le-leb _ _ h, length-append, length-take-le n l (omega arith), length-drop) (omega arith)
 
 -- stores one after the other from the front
 pub stores : (p l : List ℕ) → length p ≤ length l → AtFront p l (sets l 0 p) (length p)
@@ -81,31 +81,31 @@ pub copied : (p l : List ℕ) {after : List ℕ} {count : ℕ} → count ≡ len
 copied p l c b = record { counted = c; bytes = b ∙ ap (λ (x : List ℕ). x ++ drop (length p) l) (take-length p) }
 
 -- what fits is stored
-pub at_front : {p l after : List ℕ} {count : ℕ} → count ≡ count_of p l → after ≡ frontOf p l → length p ≤ length l → AtFront p l after count
-unfolding count_of frontOf
+pub at_front : {p l after : List ℕ} {count : ℕ} → count ≡ count_of p l → after ≡ front_of p l → length p ≤ length l → AtFront p l after count
+unfolding count_of front_of
 at_front {p} {l} c b h =
     record { counted = simp (le-leb _ _ h) at c; bytes = simp (le-leb _ _ h) at b }
 
 -- the outcomes of a writer
-pub too_small : (t l : List ℕ) → length l < length t → (Refused 11 ≡ answerBy fine t (length l)) × (l ≡ heldBy fine t l)
-unfolding answerBy heldBy
+pub too_small : (t l : List ℕ) → length l < length t → (Refused 11 ≡ answer_by fine t (length l)) × (l ≡ held_by fine t l)
+unfolding answer_by held_by
 too_small t l h = (simp (lt-leb _ _ h), simp (lt-leb _ _ h))
 
 pub stored : {t l after : List ℕ} {count : ℕ} → length t ≤ length l → AtFront t l after count
-    → (Stored count ≡ answerBy fine t (length l)) × (after ≡ heldBy fine t l)
-unfolding answerBy heldBy
+    → (Stored count ≡ answer_by fine t (length l)) × (after ≡ held_by fine t l)
+unfolding answer_by held_by
 stored h f = (simp (le-leb _ _ h) (ap Stored f.counted), simp (le-leb _ _ h) f.bytes)
 
 -- a bad field stores nothing
-pub refused : (k : ℕ) (t l : List ℕ) → (Refused k ≡ answerBy (fault k) t (length l)) × (l ≡ heldBy (fault k) t l)
-unfolding answerBy heldBy
+pub refused : (k : ℕ) (t l : List ℕ) → (Refused k ≡ answer_by (fault k) t (length l)) × (l ≡ held_by (fault k) t l)
+unfolding answer_by held_by
 refused k t l = (refl, refl)
 
 -- ---- two stores, q behind p
 
 -- a writer that has no room for both
-pub both-too-small : (p q l : List ℕ) → length l < length p + length q → (Refused 11 ≡ answerBy fine (p ++ q) (length l)) × (l ≡ heldBy fine (p ++ q) l)
-both-too-small p q l h = too_small (p ++ q) l (omega (arith, length-append p q))
+pub both_too_small : (p q l : List ℕ) → length l < length p + length q → (Refused 11 ≡ answer_by fine (p ++ q) (length l)) × (l ≡ held_by fine (p ++ q) l)
+both_too_small p q l h = too_small (p ++ q) l (omega (arith, length-append p q))
 
 -- p fits where both fit
 pub first_fits : (p q : List ℕ) {room : ℕ} → length (p ++ q) ≤ room → length p ≤ room
@@ -137,8 +137,8 @@ module _ {p l a : List ℕ} {n : ℕ} (f : AtFront p l a n) where
   within q h = rw (f.counted, f.bytes) (simp (length-append, length-drop) (omega (arith, length-append p q)))
 
   -- so q fits in what is lent from n on
-  pub rest-fits : (q : List ℕ) → length (p ++ q) ≤ length l → length q ≤ length (mid_of n (length a - n) a)
-  rest-fits q h = omega (arith, lent_length n a, within q h)
+  pub rest_fits : (q : List ℕ) → length (p ++ q) ≤ length l → length q ≤ length (mid_of n (length a - n) a)
+  rest_fits q h = omega (arith, lent_length n a, within q h)
 
   -- q stored right behind p
   pub behind : (q : List ℕ) {after : List ℕ} → after ≡ p ++ q ++ drop (n + length q) a → AtFront (p ++ q) l after (n + length q)
@@ -154,24 +154,24 @@ module _ {p l a : List ℕ} {n : ℕ} (f : AtFront p l a n) where
   both {q} {m} g = rw g.counted (behind q (back n a m ∙ rw (g.bytes, front, lent n a, drop-drop, append_assoc)))
 
   -- q stored by `store_behind`
-  pub both_stored : (q : List ℕ) {after : List ℕ} {count : ℕ} → count ≡ countBehind n q a → after ≡ heldBehind n q a
+  pub both_stored : (q : List ℕ) {after : List ℕ} {count : ℕ} → count ≡ count_behind n q a → after ≡ held_behind n q a
       → length (p ++ q) ≤ length l → AtFront (p ++ q) l after count
-  unfolding countBehind heldBehind
+  unfolding count_behind held_behind
   both_stored q {after} c b h =
       let fits : leb (n + length q) (length a) ≡ true = le-leb _ _ (within q h) in
       let e : after ≡ p ++ q ++ drop (n + length q) a = rw (← front) (simp fits at b) in
       subst (AtFront (p ++ q) l after) (sym (simp fits at c)) (behind q e)
 
   -- and by a writer that answers so
-  pub both-written : (q : List ℕ) {after : List ℕ} {count : ℕ} → count ≡ countBehind n q a → after ≡ heldBehind n q a
-      → length p + length q ≤ length l → (Stored count ≡ answerBy fine (p ++ q) (length l)) × (after ≡ heldBy fine (p ++ q) l)
-  both-written q c b h =
+  pub both_written : (q : List ℕ) {after : List ℕ} {count : ℕ} → count ≡ count_behind n q a → after ≡ held_behind n q a
+      → length p + length q ≤ length l → (Stored count ≡ answer_by fine (p ++ q) (length l)) × (after ≡ held_by fine (p ++ q) l)
+  both_written q c b h =
       let room : length (p ++ q) ≤ length l = omega (arith, length-append p q) in
       stored room (both_stored q c b room)
 
   -- what is lent from n on is still l's
-  pub lent-rest : mid_of n (length a - n) a ≡ drop (length p) l
-  lent-rest = lent n a ∙ rest
+  pub lent_rest : mid_of n (length a - n) a ≡ drop (length p) l
+  lent_rest = lent n a ∙ rest
 
   -- the k bytes behind p that stand as they were in l, counted with p
   pub kept : (k : ℕ) → length p + k ≤ length l → AtFront (p ++ take k (drop (length p) l)) l a (n + k)
@@ -183,10 +183,10 @@ module _ {p l a : List ℕ} {n : ℕ} (f : AtFront p l a n) where
       subst (AtFront (p ++ q) l a) (ap (λ (j : ℕ). n + j) size) (behind q (f.bytes ∙ same))
 
 -- all of q stored behind the first n bytes
-pub all-behind : (n : ℕ) (l : List ℕ) {q m : List ℕ} {count : ℕ} → n + length q ≤ length l → AtFront q (mid_of n (length l - n) l) m count
-    → (n + count ≡ countBehind n q l) × (put_mid n (length l - n) l m ≡ heldBehind n q l)
-unfolding countBehind heldBehind
-all-behind n l {q} {m} h g = (
+pub all_behind : (n : ℕ) (l : List ℕ) {q m : List ℕ} {count : ℕ} → n + length q ≤ length l → AtFront q (mid_of n (length l - n) l) m count
+    → (n + count ≡ count_behind n q l) × (put_mid n (length l - n) l m ≡ held_behind n q l)
+unfolding count_behind held_behind
+all_behind n l {q} {m} h g = (
   simp (le-leb _ _ h) (ap (λ (k : ℕ). n + k) g.counted),
   simp (le-leb _ _ h) (back n l m ∙ rw (g.bytes, lent n l, drop-drop, append_assoc)),
 )
@@ -199,8 +199,8 @@ past k q l h =
 
 -- p stored over a slice in which q was stored before, all of it within p
 pub covered : (k : ℕ) (q l : List ℕ) {p m after : List ℕ} {count : ℕ} → k + length q ≤ length l → k + length q ≤ length p
-    → m ≡ heldBehind k q l → AtFront p m after count → AtFront p l after count
-unfolding heldBehind
+    → m ≡ held_behind k q l → AtFront p m after count → AtFront p l after count
+unfolding held_behind
 covered k q l {p} {m} h w e f =
     let i : ℕ = k + length q in
     let j : ℕ = length p - i in

@@ -3,7 +3,7 @@
 ghost use Rattle.std.specs.Prelude.{◌≡◌, ◌∷◌, []};
 ghost use Rattle.octets.specs.Bits.{bit_of};
 ghost use Rattle.octets.specs.Number.{number_of, bytes_of};
-ghost use Rattle.octets.specs.Front.{count_of, frontOf, countBehind, heldBehind};
+ghost use Rattle.octets.specs.Front.{count_of, front_of, count_behind, held_behind};
 ghost use Rattle.octets.specs.Part.{part_of};
 
 // Why a reader refuses its bytes: a refusal number of document 01.
@@ -52,7 +52,7 @@ pub fn join32(first: u8, second: u8, third: u8, last: u8) -> u32
 // bytes it stored: both, or none where they do not fit.
 pub fn store16(n: u16, out: &mut [u8]) -> usize
     ensures count { result ≡ count_of (bytes_of 2 n) out.old }
-    ensures bytes { out.new ≡ frontOf (bytes_of 2 n) out.old }
+    ensures bytes { out.new ≡ front_of (bytes_of 2 n) out.old }
 {
     if out.len() < 2 {
         return 0;
@@ -66,7 +66,7 @@ pub fn store16(n: u16, out: &mut [u8]) -> usize
 // bytes it stored: all, or none where they do not fit.
 pub fn store32(n: u32, out: &mut [u8]) -> usize
     ensures count { result ≡ count_of (bytes_of 4 n) out.old }
-    ensures bytes { out.new ≡ frontOf (bytes_of 4 n) out.old }
+    ensures bytes { out.new ≡ front_of (bytes_of 4 n) out.old }
 {
     if out.len() < 4 {
         return 0;
@@ -82,7 +82,7 @@ pub fn store32(n: u32, out: &mut [u8]) -> usize
 // do not fit.
 pub fn store(source: &[u8], out: &mut [u8]) -> usize
     ensures count { result ≡ count_of source.now out.old }
-    ensures bytes { out.new ≡ frontOf source.now out.old }
+    ensures bytes { out.new ≡ front_of source.now out.old }
 {
     if out.len() < source.len() {
         return 0;
@@ -93,8 +93,8 @@ pub fn store(source: &[u8], out: &mut [u8]) -> usize
 // Stores source behind the n bytes in front of out, and answers how many bytes then stand in front:
 // those and all of source, or none where they do not fit.
 pub fn store_behind(n: usize, source: &[u8], out: &mut [u8]) -> usize
-    ensures count { result ≡ countBehind n source.now out.old }
-    ensures bytes { out.new ≡ heldBehind n source.now out.old }
+    ensures count { result ≡ count_behind n source.now out.old }
+    ensures bytes { out.new ≡ held_behind n source.now out.old }
 {
     if out.len() < n {
         return 0;

@@ -5,14 +5,14 @@ use Rattle.std.proofs.Math.Bool.{true}
 use Rattle.std.proofs.Common.{arith}
 use Rattle.std.proofs.Math.ListN.{get_or}
 use borrow.Author.Tests.{eqb-true, ltb-false, le-ltb, leb-true, le-leb, not-false}
-use Rattle.octets.specs.Choice.{never, by-pick, and_left, and_right}
+use Rattle.octets.specs.Choice.{never, by_pick, and_left, and_right}
 use Rattle.octets.specs.Number.{bytes_of}
 use Rattle.octets.specs.Front.{fine}
-use Rattle.octets.specs.Fixed.{by-verdict, passed}
+use Rattle.octets.specs.Fixed.{by_verdict, passed}
 use Rattle.octets.specs.declared.Mode.{Mode}
 use Rattle.octets.specs.declared.Mode.TheVariants as mode
-use Rattle.parameters.specs.Fields.{fixedLength, goodFlags, goodStatus1, goodStatus2, goodStatus3, extensionVerdict, verdictOf}
-use Rattle.parameters.specs.Reading.{extensionIn, fieldsIn, read_of}
+use Rattle.parameters.specs.Fields.{fixed_length, good_flags, good_status1, good_status2, good_status3, extension_verdict, verdict_of}
+use Rattle.parameters.specs.Reading.{extension_in, fields_in, read_of}
 use Rattle.parameters.specs.declared.fields.Extension.{Extension}
 use Rattle.parameters.specs.declared.reading.Reading.{Reading}
 use Rattle.parameters.specs.declared.reading.Reading.TheVariants as reading
@@ -31,8 +31,8 @@ pub record BasicBytes (s : List ℕ) : Type 0 where
 -- what DPV1 adds: 10 bytes; bits 0, 1, 3, 4 of byte 8, bit 1 of byte 9 and bits 5, 6 of byte 10 are 0
 pub record StatusBytes (s : List ℕ) : Type 0 where
   pub long : 10 ≤ length s
-  pub status1-low : get_or s 7 0 % 4 ≡ 0
-  pub status1-high : get_or s 7 0 / 8 % 4 ≡ 0
+  pub status1_low : get_or s 7 0 % 4 ≡ 0
+  pub status1_high : get_or s 7 0 / 8 % 4 ≡ 0
   pub status2 : get_or s 8 0 / 2 % 2 ≡ 0
   pub status3 : get_or s 9 0 / 32 % 4 ≡ 0
 
@@ -43,31 +43,31 @@ ParameterBytes s mode.Dpv1 = BasicBytes s × StatusBytes s
 -- ---- from the verdict, and back to it
 
 module _ (s : List ℕ) where
-  status-fine : 10 ≤ length s → extensionVerdict (extensionIn s mode.Dpv1) ≡ fine → StatusBytes s
-  unfolding extensionVerdict
-  status-fine h v =
+  status_fine : 10 ≤ length s → extension_verdict (extension_in s mode.Dpv1) ≡ fine → StatusBytes s
+  unfolding extension_verdict
+  status_fine h v =
       let a : ℕ = get_or s 7 0 in
-      let p = passed 21 (not (goodStatus1 a)) _ v in
-      let q = passed 21 (not (goodStatus2 (get_or s 8 0))) _ p.1 in
-      let r = passed 21 (not (goodStatus3 (get_or s 9 0))) _ q.1 in
-      let g : goodStatus1 a ≡ true = not-false _ p.0 in
+      let p = passed 21 (not (good_status1 a)) _ v in
+      let q = passed 21 (not (good_status2 (get_or s 8 0))) _ p.1 in
+      let r = passed 21 (not (good_status3 (get_or s 9 0))) _ q.1 in
+      let g : good_status1 a ≡ true = not-false _ p.0 in
       record {
         long = h;
-        status1-low = eqb-true _ _ (and_left (eqb (a % 4) 0) (eqb (a / 8 % 4) 0) g);
-        status1-high = eqb-true _ _ (and_right (eqb (a % 4) 0) (eqb (a / 8 % 4) 0) g);
+        status1_low = eqb-true _ _ (and_left (eqb (a % 4) 0) (eqb (a / 8 % 4) 0) g);
+        status1_high = eqb-true _ _ (and_right (eqb (a % 4) 0) (eqb (a / 8 % 4) 0) g);
         status2 = eqb-true _ _ (not-false _ q.0);
         status3 = eqb-true _ _ (not-false _ r.0);
       }
 
-  fine-status : StatusBytes s → extensionVerdict (extensionIn s mode.Dpv1) ≡ fine
-  unfolding extensionVerdict
-  fine-status g = simp (g.status1-low, g.status1-high, g.status2, g.status3)
+  fine_status : StatusBytes s → extension_verdict (extension_in s mode.Dpv1) ≡ fine
+  unfolding extension_verdict
+  fine_status g = simp (g.status1_low, g.status1_high, g.status2, g.status3)
 
-  basic-fine : (e : Extension) → 7 ≤ length s → verdictOf (fieldsIn s e) (length s) ≡ fine → BasicBytes s × (extensionVerdict e ≡ fine)
-  unfolding verdictOf
-  basic-fine e h v =
+  basic_fine : (e : Extension) → 7 ≤ length s → verdict_of (fields_in s e) (length s) ≡ fine → BasicBytes s × (extension_verdict e ≡ fine)
+  unfolding verdict_of
+  basic_fine e h v =
       let p = passed 20 (ltb 244 (length s)) _ v in
-      let q = passed 21 (not (goodFlags (get_or s 0 0))) _ p.1 in
+      let q = passed 21 (not (good_flags (get_or s 0 0))) _ p.1 in
       let r = passed 21 (not (leb 11 (get_or s 3 0))) _ q.1 in (
         record {
           long = h;
@@ -78,40 +78,40 @@ module _ (s : List ℕ) where
         r.1,
       )
 
-  fine-basic : (e : Extension) → BasicBytes s → extensionVerdict e ≡ fine → verdictOf (fieldsIn s e) (length s) ≡ fine
-  unfolding verdictOf
-  fine-basic e b v = simp (le-ltb _ _ b.short, b.flags, le-leb _ _ b.response) v
+  fine_basic : (e : Extension) → BasicBytes s → extension_verdict e ≡ fine → verdict_of (fields_in s e) (length s) ≡ fine
+  unfolding verdict_of
+  fine_basic e b v = simp (le-ltb _ _ b.short, b.flags, le-leb _ _ b.response) v
 
-  judged-fine : (m : Mode) → fixedLength m ≤ length s → verdictOf (fieldsIn s (extensionIn s m)) (length s) ≡ fine → ParameterBytes s m
-  judged-fine mode.Dpv0 h v = (basic-fine (extensionIn s mode.Dpv0) h v).0
-  judged-fine mode.Dpv1 h v =
-      let b = basic-fine (extensionIn s mode.Dpv1) (omega arith) v in
-      (b.0, status-fine h b.1)
+  judged_fine : (m : Mode) → fixed_length m ≤ length s → verdict_of (fields_in s (extension_in s m)) (length s) ≡ fine → ParameterBytes s m
+  judged_fine mode.Dpv0 h v = (basic_fine (extension_in s mode.Dpv0) h v).0
+  judged_fine mode.Dpv1 h v =
+      let b = basic_fine (extension_in s mode.Dpv1) (omega arith) v in
+      (b.0, status_fine h b.1)
 
-  fine-judged : (m : Mode) → ParameterBytes s m → (fixedLength m ≤ length s) × (verdictOf (fieldsIn s (extensionIn s m)) (length s) ≡ fine)
-  unfolding extensionVerdict
-  fine-judged mode.Dpv0 g = (g.long, fine-basic (extensionIn s mode.Dpv0) g refl)
-  fine-judged mode.Dpv1 g = (g.1.long, fine-basic (extensionIn s mode.Dpv1) g.0 (fine-status g.1))
+  fine_judged : (m : Mode) → ParameterBytes s m → (fixed_length m ≤ length s) × (verdict_of (fields_in s (extension_in s m)) (length s) ≡ fine)
+  unfolding extension_verdict
+  fine_judged mode.Dpv0 g = (g.long, fine_basic (extension_in s mode.Dpv0) g refl)
+  fine_judged mode.Dpv1 g = (g.1.long, fine_basic (extension_in s mode.Dpv1) g.0 (fine_status g.1))
 
   module _ (m : Mode) where
     abbrev If : Reading → Type 0
     If r = accepted r ≡ true → ParameterBytes s m
 
     -- Accepted in a version exactly when the length is in range and each bit and byte is as that version asks.
-    pub parameters-accepted : accepted (read_of s m) ≡ true ↔ ParameterBytes s m
+    pub parameters_accepted : accepted (read_of s m) ≡ true ↔ ParameterBytes s m
     unfolding read_of
-    parameters-accepted = (
-      by-pick If (ltb (length s) (fixedLength m)) (λ _ a. absurd (never a))
+    parameters_accepted = (
+      by_pick If (ltb (length s) (fixed_length m)) (λ _ a. absurd (never a))
           (λ long.
-          by-verdict If (verdictOf (fieldsIn s (extensionIn s m)) (length s)) (λ k a. absurd (never a))
-          (λ good _. judged-fine m (ltb-false (length s) (fixedLength m) long) good)),
-      λ g. let f = fine-judged m g in simp (le-ltb _ _ f.0, f.1),
+          by_verdict If (verdict_of (fields_in s (extension_in s m)) (length s)) (λ k a. absurd (never a))
+          (λ good _. judged_fine m (ltb-false (length s) (fixed_length m) long) good)),
+      λ g. let f = fine_judged m g in simp (le-ltb _ _ f.0, f.1),
     )
 
 -- The shortest parameters of each version, and the longest.
-pub parameters-computed :
+pub parameters_computed :
     (accepted (read_of (0 ∷ 1 ∷ 1 ∷ 11 ∷ 8 ∷ 12 ∷ 0 ∷ []) mode.Dpv0) ≡ true)
     × (accepted (read_of (248 ∷ 1 ∷ 1 ∷ 255 ∷ 8 ∷ 12 ∷ 0 ∷ 228 ∷ 253 ∷ 159 ∷ []) mode.Dpv1) ≡ true)
     × (accepted (read_of (0 ∷ 1 ∷ 1 ∷ 11 ∷ bytes_of 240 0) mode.Dpv1) ≡ true)
-unfolding read_of verdictOf extensionVerdict
-parameters-computed = (refl, refl, refl)
+unfolding read_of verdict_of extension_verdict
+parameters_computed = (refl, refl, refl)

@@ -9,24 +9,24 @@ use Rattle.octets.specs.Fixed.{judged}
 use Rattle.octets.specs.declared.Mode.{Mode}
 use Rattle.parameters.specs.Fields.{mode_of}
 use Rattle.parameters.specs.Reading.{refused, read_of}
-use Rattle.parameters.specs.Writing.{bytesFor, userStart, verdictFor, Again}
-use Rattle.parameters.specs.Lemmas.Back.{alike, user-back}
+use Rattle.parameters.specs.Writing.{bytes_for, user_start, verdict_for, Again}
+use Rattle.parameters.specs.Lemmas.Back.{alike, user_back}
 use Rattle.parameters.specs.Lemmas.Again.{AgainIn, again}
 use Rattle.parameters.specs.declared.fields.Parameters.{Parameters}
 use Rattle.parameters.specs.declared.reading.Reading.TheVariants as reading
 
 module _ (f : Parameters) (user : List ℕ) (word : f.ident < 65536) where
   -- (a) What is written reads back, in the version that it was written in, as the same fields and the same user bytes.
-  pub reads-back : verdictFor f user ≡ fine
-      → (read_of (bytesFor f user) (mode_of f.extension) ≡ reading.Parameters f (userStart f) (length user)) × (part_of (bytesFor f user) (userStart f) (length user) ≡ user)
-  reads-back e =
-      (alike f user word ∙ ap (λ (v : Verdict). judged refused v (reading.Parameters f (userStart f) (length user))) e, user-back f user)
+  pub reads_back : verdict_for f user ≡ fine
+      → (read_of (bytes_for f user) (mode_of f.extension) ≡ reading.Parameters f (user_start f) (length user)) × (part_of (bytes_for f user) (user_start f) (length user) ≡ user)
+  reads_back e =
+      (alike f user word ∙ ap (λ (v : Verdict). judged refused v (reading.Parameters f (user_start f) (length user))) e, user_back f user)
 
   -- What the writer refuses, the reader would refuse with the same number.
-  pub refused-alike : (k : ℕ) → verdictFor f user ≡ fault k → read_of (bytesFor f user) (mode_of f.extension) ≡ refused k
-  refused-alike k e = alike f user word ∙ ap (λ (v : Verdict). judged refused v (reading.Parameters f (userStart f) (length user))) e
+  pub refused_alike : (k : ℕ) → verdict_for f user ≡ fault k → read_of (bytes_for f user) (mode_of f.extension) ≡ refused k
+  refused_alike k e = alike f user word ∙ ap (λ (v : Verdict). judged refused v (reading.Parameters f (user_start f) (length user))) e
 
 -- (b) What is read in a version may be written, and gives the same bytes of that version again.
-pub writes-back : (s : List ℕ) → Bytes s → (m : Mode) {f : Parameters} {start len : ℕ} → read_of s m ≡ reading.Parameters f start len
+pub writes_back : (s : List ℕ) → Bytes s → (m : Mode) {f : Parameters} {start len : ℕ} → read_of s m ≡ reading.Parameters f start len
     → Again s m f (part_of s start len)
-writes-back s b m e = subst (AgainIn s b m) e (again s b m)
+writes_back s b m e = subst (AgainIn s b m) e (again s b m)

@@ -5,7 +5,7 @@ use Rattle.octets.specs.Number.{number_of}
 use Rattle.octets.specs.Fixed.{judged}
 use Rattle.octets.specs.declared.Mode.{Mode}
 use Rattle.octets.specs.declared.Mode.TheVariants as mode
-use Rattle.parameters.specs.Fields.{fixedLength, extensionVerdict, verdictOf}
+use Rattle.parameters.specs.Fields.{fixed_length, extension_verdict, verdict_of}
 use Rattle.parameters.specs.declared.fields.Extension.{Extension}
 use Rattle.parameters.specs.declared.fields.Extension.TheVariants.{Dpv0, Dpv1}
 use Rattle.parameters.specs.declared.fields.Parameters.{Parameters}
@@ -17,12 +17,12 @@ refused k = reading.Refused (record { number = k })
 
 -- ---- the fields
 
-abbrev pub extensionIn : List ℕ → Mode → Extension
-extensionIn s mode.Dpv0 = Dpv0
-extensionIn s mode.Dpv1 = Dpv1 (get_or s 7 0) (get_or s 8 0) (get_or s 9 0)
+abbrev pub extension_in : List ℕ → Mode → Extension
+extension_in s mode.Dpv0 = Dpv0
+extension_in s mode.Dpv1 = Dpv1 (get_or s 7 0) (get_or s 8 0) (get_or s 9 0)
 
-abbrev pub fieldsIn : List ℕ → Extension → Parameters
-fieldsIn s e =
+abbrev pub fields_in : List ℕ → Extension → Parameters
+fields_in s e =
     record {
       flags = get_or s 0 0;
       factor1 = get_or s 1 0;
@@ -35,15 +35,15 @@ fieldsIn s e =
 
 -- the answer for them, with the user bytes from start
 abbrev pub answer_in : List ℕ → Extension → (start : ℕ) → Reading
-answer_in s e start = reading.Parameters (fieldsIn s e) start (length s - start)
+answer_in s e start = reading.Parameters (fields_in s e) start (length s - start)
 
 -- ---- the rules
 
 -- the extension comes last
-unfoldable pub extensionOf : List ℕ → Mode → Reading
-extensionOf s m = judged refused (extensionVerdict (extensionIn s m)) (answer_in s (extensionIn s m) (fixedLength m))
+unfoldable pub extension_of : List ℕ → Mode → Reading
+extension_of s m = judged refused (extension_verdict (extension_in s m)) (answer_in s (extension_in s m) (fixed_length m))
 
 unfoldable pub read_of : List ℕ → Mode → Reading
 read_of s m =
-    pick (ltb (length s) (fixedLength m)) (refused 20)
-    (judged refused (verdictOf (fieldsIn s (extensionIn s m)) (length s)) (answer_in s (extensionIn s m) (fixedLength m)))
+    pick (ltb (length s) (fixed_length m)) (refused 20)
+    (judged refused (verdict_of (fields_in s (extension_in s m)) (length s)) (answer_in s (extension_in s m) (fixed_length m)))

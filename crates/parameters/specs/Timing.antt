@@ -12,9 +12,9 @@ base_of Dpv0 = 10
 base_of (Dpv1 a b c) = pick (eqb (a / 4 % 2) 1) 1 10
 
 -- factor x factor x base
-abbrev pub watchdogOf : Parameters → Milliseconds
-watchdogOf f = record { 0 = f.factor1 * f.factor2 * base_of f.extension }
+abbrev pub watchdog_of : Parameters → Milliseconds
+watchdog_of f = record { 0 = f.factor1 * f.factor2 * base_of f.extension }
 
 -- the elapsed time has reached the watchdog time
-abbrev pub expiredOf : (watchdog elapsed : Milliseconds) → Bool
-expiredOf w t = leb w.0 t.0
+abbrev pub expired_of : (watchdog elapsed : Milliseconds) → Bool
+expired_of w t = leb w.0 t.0

@@ -4,44 +4,44 @@ use Rattle.octets.specs.Choice.{◌and◌}
 use Rattle.octets.specs.Number.{bytes_of}
 use Rattle.octets.specs.Front.{Verdict, fine}
 use Rattle.octets.specs.declared.Mode.{Mode}
-use Rattle.parameters.specs.Fields.{mode_of, fixedLength, goodStatus1, goodStatus2, goodStatus3, verdictOf}
+use Rattle.parameters.specs.Fields.{mode_of, fixed_length, good_status1, good_status2, good_status3, verdict_of}
 use Rattle.parameters.specs.declared.fields.Extension.{Extension}
 use Rattle.parameters.specs.declared.fields.Extension.TheVariants.{Dpv0, Dpv1}
 use Rattle.parameters.specs.declared.fields.Parameters.{Parameters}
 
 -- the seven bytes of both versions
-abbrev pub fixedBytes : Parameters → List ℕ
-fixedBytes f =
+abbrev pub fixed_bytes : Parameters → List ℕ
+fixed_bytes f =
     f.flags ∷ f.factor1 ∷ f.factor2 ∷ f.response.0 ∷ (bytes_of 2 f.ident ++ (f.groups ∷ []))
 
 -- the three that DPV1 adds
-abbrev pub statusBytes : Extension → List ℕ
-statusBytes Dpv0 = []
-statusBytes (Dpv1 a b c) = a ∷ b ∷ c ∷ []
+abbrev pub status_bytes : Extension → List ℕ
+status_bytes Dpv0 = []
+status_bytes (Dpv1 a b c) = a ∷ b ∷ c ∷ []
 
-abbrev pub frontBytes : Parameters → List ℕ
-frontBytes f = fixedBytes f ++ statusBytes f.extension
+abbrev pub front_bytes : Parameters → List ℕ
+front_bytes f = fixed_bytes f ++ status_bytes f.extension
 
-abbrev pub bytesFor : Parameters → (user : List ℕ) → List ℕ
-bytesFor f user = frontBytes f ++ user
+abbrev pub bytes_for : Parameters → (user : List ℕ) → List ℕ
+bytes_for f user = front_bytes f ++ user
 
 -- where the user bytes begin
-abbrev pub userStart : Parameters → ℕ
-userStart f = fixedLength (mode_of f.extension)
+abbrev pub user_start : Parameters → ℕ
+user_start f = fixed_length (mode_of f.extension)
 
 -- the three status bytes together: a writer gives no place
-abbrev pub goodExtension : Extension → Bool
-goodExtension Dpv0 = true
-goodExtension (Dpv1 a b c) = goodStatus1 a and goodStatus2 b and goodStatus3 c
+abbrev pub good_extension : Extension → Bool
+good_extension Dpv0 = true
+good_extension (Dpv1 a b c) = good_status1 a and good_status2 b and good_status3 c
 
 -- the verdict on the fields, at the length that the bytes will have
-abbrev pub verdictFor : Parameters → (user : List ℕ) → Verdict
-verdictFor f user = verdictOf f (userStart f + length user)
+abbrev pub verdict_for : Parameters → (user : List ℕ) → Verdict
+verdict_for f user = verdict_of f (user_start f + length user)
 
 -- ---- what the laws say of parameters that were read
 
 -- fields and user bytes that are s in the version m
 pub record Again (s : List ℕ) (m : Mode) (f : Parameters) (user : List ℕ) : Type 0 where
   pub mode : mode_of f.extension ≡ m
-  pub taken : verdictFor f user ≡ fine
-  pub same : bytesFor f user ≡ s
+  pub taken : verdict_for f user ≡ fine
+  pub same : bytes_for f user ≡ s

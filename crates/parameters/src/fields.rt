@@ -1,6 +1,6 @@
 // The fields of parameters, and what each byte may hold.
 ghost use Rattle.std.specs.Prelude.{◌≡◌};
-ghost use Rattle.parameters.specs.Fields.{goodFlags, goodResponse, goodStatus1, goodStatus2, goodStatus3, fixedLength};
+ghost use Rattle.parameters.specs.Fields.{good_flags, good_response, good_status1, good_status2, good_status3, fixed_length};
 
 use octets::Mode;
 
@@ -37,7 +37,7 @@ pub struct Parameters {
 
 // How many fixed bytes stand before the user bytes.
 pub fn fixed_length(mode: Mode) -> usize
-    ensures { result ≡ fixedLength mode }
+    ensures { result ≡ fixed_length mode }
 {
     match mode {
         Mode::Dpv0 => 7,
@@ -47,21 +47,21 @@ pub fn fixed_length(mode: Mode) -> usize
 
 // Byte 1: bits 0 to 2 are 0.
 pub fn good_flags(flags: u8) -> bool
-    ensures { result ≡ goodFlags flags }
+    ensures { result ≡ good_flags flags }
 {
     flags % 8 == 0
 }
 
 // Byte 4: a slave is given 11 bit times at least before it answers. (A byte is at most 255.)
 pub fn good_response(response: BitTimes) -> bool
-    ensures { result ≡ goodResponse response }
+    ensures { result ≡ good_response response }
 {
     11 <= response.0
 }
 
 // Byte 8: bits 0, 1, 3 and 4 are 0.
 pub fn good_status1(status: u8) -> bool
-    ensures { result ≡ goodStatus1 status }
+    ensures { result ≡ good_status1 status }
 {
     if status % 4 != 0 {
         return false;
@@ -71,14 +71,14 @@ pub fn good_status1(status: u8) -> bool
 
 // Byte 9: bit 1 is 0.
 pub fn good_status2(status: u8) -> bool
-    ensures { result ≡ goodStatus2 status }
+    ensures { result ≡ good_status2 status }
 {
     status / 2 % 2 == 0
 }
 
 // Byte 10: bits 5 and 6 are 0.
 pub fn good_status3(status: u8) -> bool
-    ensures { result ≡ goodStatus3 status }
+    ensures { result ≡ good_status3 status }
 {
     status / 32 % 4 == 0
 }

@@ -1,6 +1,6 @@
 // The watchdog: how long a slave waits for its master.
 ghost use Rattle.std.specs.Prelude.{◌≡◌};
-ghost use Rattle.parameters.specs.Timing.{base_of, watchdogOf, expiredOf};
+ghost use Rattle.parameters.specs.Timing.{base_of, watchdog_of, expired_of};
 
 use crate::fields::{Extension, Milliseconds, Parameters};
 
@@ -21,7 +21,7 @@ fn base(extension: Extension) -> u32
 
 // The watchdog time that parameters set.
 pub fn watchdog(fields: Parameters) -> Milliseconds
-    ensures { result ≡ watchdogOf fields }
+    ensures { result ≡ watchdog_of fields }
 {
     let extension = fields.extension;
     Milliseconds(fields.factor1 as u32 * fields.factor2 as u32 * base(extension))
@@ -29,7 +29,7 @@ pub fn watchdog(fields: Parameters) -> Milliseconds
 
 // Whether a watchdog has expired: the time since the last call has reached it.
 pub fn expired(watchdog: Milliseconds, elapsed: Milliseconds) -> bool
-    ensures { result ≡ expiredOf watchdog elapsed }
+    ensures { result ≡ expired_of watchdog elapsed }
 {
     watchdog.0 <= elapsed.0
 }

@@ -1,6 +1,6 @@
 // Reading parameters: each byte that can be refused has its own return, in document 01's order.
 ghost use Rattle.std.specs.Prelude.{◌≡◌, ◌≤◌, length};
-ghost use Rattle.parameters.specs.Reading.{answer_in, extensionOf, read_of};
+ghost use Rattle.parameters.specs.Reading.{answer_in, extension_of, read_of};
 
 use octets::{Mode, Refusal};
 use parameters::{
@@ -33,7 +33,7 @@ fn answer(bytes: &[u8], extension: Extension, start: usize) -> Reading
 // The status bytes of DPV1.
 fn dpv1(bytes: &[u8]) -> Reading
     requires { 10 ≤ length bytes.now }
-    ensures { result ≡ extensionOf bytes.now Mode.Dpv1 }
+    ensures { result ≡ extension_of bytes.now Mode.Dpv1 }
 {
     let status1 = bytes[7];
     if !good_status1(status1) {

@@ -1,8 +1,8 @@
 // Writing parameters at the front of a lent slice.
 ghost use Rattle.std.specs.Prelude.{◌≡◌, ◌≤◌, length};
-ghost use Rattle.octets.specs.Front.{AtFront, answerBy, heldBy};
+ghost use Rattle.octets.specs.Front.{AtFront, answer_by, held_by};
 ghost use Rattle.parameters.specs.Fields.{mode_of};
-ghost use Rattle.parameters.specs.Writing.{frontBytes, bytesFor, userStart, goodExtension, verdictFor};
+ghost use Rattle.parameters.specs.Writing.{front_bytes, bytes_for, user_start, good_extension, verdict_for};
 
 use octets::{Mode, Written};
 use parameters::{
@@ -25,7 +25,7 @@ fn mode_of(extension: Extension) -> Mode
 }
 
 fn good_extension(extension: Extension) -> bool
-    ensures { result ≡ goodExtension extension }
+    ensures { result ≡ good_extension extension }
 {
     match extension {
         Extension::Dpv0 => true,
@@ -47,8 +47,8 @@ fn good_extension(extension: Extension) -> bool
 
 // Stores what stands before the user bytes.
 fn put_front(fields: Parameters, out: &mut [u8]) -> usize
-    requires { userStart fields ≤ length out.old }
-    ensures { AtFront (frontBytes fields) out.old out.new result }
+    requires { user_start fields ≤ length out.old }
+    ensures { AtFront (front_bytes fields) out.old out.new result }
 {
     let ident = fields.ident;
     let response = fields.response;
@@ -76,8 +76,8 @@ fn put_front(fields: Parameters, out: &mut [u8]) -> usize
 }
 
 fn put(fields: Parameters, user: &[u8], out: &mut [u8]) -> usize
-    requires { length (bytesFor fields user.now) ≤ length out.old }
-    ensures { AtFront (bytesFor fields user.now) out.old out.new result }
+    requires { length (bytes_for fields user.now) ≤ length out.old }
+    ensures { AtFront (bytes_for fields user.now) out.old out.new result }
 {
     let n = put_front(fields, out);
     octets::store_behind(n, user, out)
@@ -85,8 +85,8 @@ fn put(fields: Parameters, user: &[u8], out: &mut [u8]) -> usize
 
 // Writes parameters from their fields and user bytes, in the version that their extension is of.
 pub fn write(fields: Parameters, user: &[u8], out: &mut [u8]) -> Written
-    ensures answer { result ≡ answerBy (verdictFor fields user.now) (bytesFor fields user.now) (length out.old) }
-    ensures bytes { out.new ≡ heldBy (verdictFor fields user.now) (bytesFor fields user.now) out.old }
+    ensures answer { result ≡ answer_by (verdict_for fields user.now) (bytes_for fields user.now) (length out.old) }
+    ensures bytes { out.new ≡ held_by (verdict_for fields user.now) (bytes_for fields user.now) out.old }
 {
     let extension = fields.extension;
     let size = fixed_length(mode_of(extension)) + user.len();

@@ -10,33 +10,33 @@ use Rattle.octets.specs.Choice.{pick}
 use Rattle.octets.specs.Fixed.{passed}
 use Rattle.octets.specs.Front.{AtFront, Verdict, fine, over}
 use Rattle.diagnosis.specs.Reading as diagnosis
-use Rattle.protocol.specs.Check.{verdictIn}
+use Rattle.protocol.specs.Check.{verdict_in}
 use Rattle.protocol.specs.Lemmas.Replies.{valid}
 use Rattle.protocol.specs.MachineLaws.Replies.{Comes, comes}
 use Rattle.protocol.specs.Printer as printer
-use Rattle.protocol.specs.Printer.{receivedOf, perform, replyBytes, renewed, isRepeat, saying, newCall, counted, heardBy, hear, is_refused, verdictOf, Station, lending, leaving, stepped, stepBy, step_of}
-use Rattle.protocol.specs.Slots.{Slots, tooLong}
+use Rattle.protocol.specs.Printer.{received_of, perform, reply_bytes, renewed, is_repeat, saying, new_call, counted, heard_by, hear, is_refused, verdict_of, Station, lending, leaving, stepped, step_by, step_of}
+use Rattle.protocol.specs.Slots.{Slots, too_long}
 use Rattle.protocol.specs.declared.check.Check.{Check}
 use Rattle.protocol.specs.declared.printer.Printer.{Printer}
 use Rattle.protocol.specs.declared.printer.Reaction.{Reaction}
 use Rattle.protocol.specs.declared.printer.Reaction.TheVariants as reaction
-use Rattle.printer_input.specs.Meaning.{askIn, receivedIn}
+use Rattle.printer_input.specs.Meaning.{ask_in, received_in}
 use Rattle.printer_input.specs.declared.Ask.{Ask}
 use Rattle.printer_input.specs.declared.Ask.TheVariants as ask
 use Rattle.printer_input.specs.declared.Received.{Received}
-use Rattle.printer_rules.specs.Meaning.{replyIn, askWith, slotsAfter, deedIn}
+use Rattle.printer_rules.specs.Meaning.{reply_in, ask_with, slots_after, deed_in}
 use Rattle.printer_rules.specs.declared.rules.Deed.{Deed}
-use Rattle.printer.specs.Meaning.{bodyIn, slots_of}
+use Rattle.printer.specs.Meaning.{body_in, slots_of}
 use Rattle.printer.specs.Ready.{Usable, Ready, Sends}
 
 -- ---- what is judged first
 
 -- what is not refused may be used
-pub may-be-used : (diag : List ℕ) (p : Printer) (lengths bodies buffer : List ℕ) → verdictOf diag (lending p lengths bodies buffer) ≡ fine → Usable diag p.address buffer
-unfolding verdictOf
-may-be-used diag p lengths bodies buffer e =
+pub may_be_used : (diag : List ℕ) (p : Printer) (lengths bodies buffer : List ℕ) → verdict_of diag (lending p lengths bodies buffer) ≡ fine → Usable diag p.address buffer
+unfolding verdict_of
+may_be_used diag p lengths bodies buffer e =
     let address = passed 12 (ltb 126 p.address) _ e in
-    let slots = passed 12 (tooLong lengths) _ address.1 in
+    let slots = passed 12 (too_long lengths) _ address.1 in
     let diagnosed = passed 12 (is_refused (diagnosis.read_of diag)) _ slots.1 in
     let room = passed 11 (ltb (length buffer) 255) _ diagnosed.1 in
     record { own = ltb-false _ _ address.0; diagnosis = valid diag diagnosed.0; room = ltb-false _ _ room.0 }
@@ -46,41 +46,41 @@ ready u t = record { stations = record { own = u.own; other = t; room = u.room }
 
 module _ (diag : List ℕ) (n : ℕ) (s : List ℕ) (x : Station) where
   -- by what was judged
-  pub by-check : {c k : Check} → verdictIn c ≡ verdictOf diag x → c ≡ k → stepBy (verdictIn k) diag n s x ≡ step_of diag n s x
+  pub by_check : {c k : Check} → verdict_in c ≡ verdict_of diag x → c ≡ k → step_by (verdict_in k) diag n s x ≡ step_of diag n s x
   unfolding step_of
-  by-check e t = ap (λ (v : Verdict). stepBy v diag n s x) (ap verdictIn (sym t) ∙ e)
+  by_check e t = ap (λ (v : Verdict). step_by v diag n s x) (ap verdict_in (sym t) ∙ e)
 
   -- by what was received
-  pub by-received : {r k : Received} → receivedIn s r ≡ receivedOf x.printer.address s → r ≡ k
-      → stepped (heardBy diag n (receivedIn s k) x) ≡ stepped (hear diag n s x)
+  pub by_received : {r k : Received} → received_in s r ≡ received_of x.printer.address s → r ≡ k
+      → stepped (heard_by diag n (received_in s k) x) ≡ stepped (hear diag n s x)
   unfolding hear
-  by-received e t = ap (λ (y : printer.Received). stepped (heardBy diag n y x)) (ap (receivedIn s) (sym t) ∙ e)
+  by_received e t = ap (λ (y : printer.Received). stepped (heard_by diag n y x)) (ap (received_in s) (sym t) ∙ e)
 
   -- by whether a counted call is a repeat
-  pub by-repeat : (fcb : Bool) (sa : ℕ) (ask : printer.Ask) {b : Bool} → isRepeat x.printer fcb sa ≡ b
+  pub by_repeat : (fcb : Bool) (sa : ℕ) (ask : printer.Ask) {b : Bool} → is_repeat x.printer fcb sa ≡ b
       → stepped (pick b (record { station = x; reply = x.printer.held })
-      (newCall diag x fcb sa (perform x.printer.boarding n x.printer.pending x.slots x.printer.writes ask)))
-      ≡ stepped (heardBy diag n (counted fcb sa ask) x)
-  by-repeat fcb sa ask e =
+      (new_call diag x fcb sa (perform x.printer.boarding n x.printer.pending x.slots x.printer.writes ask)))
+      ≡ stepped (heard_by diag n (counted fcb sa ask) x)
+  by_repeat fcb sa ask e =
       ap
       (λ (b : Bool).
       stepped (pick b (record { station = x; reply = x.printer.held })
-      (newCall diag x fcb sa (perform x.printer.boarding n x.printer.pending x.slots x.printer.writes ask))))
+      (new_call diag x fcb sa (perform x.printer.boarding n x.printer.pending x.slots x.printer.writes ask))))
       (sym e)
 
 -- ---- calls
 
 -- a call comes from a station 0..126
-pub came : (address : ℕ) (s : List ℕ) {r k : Received} → receivedIn s r ≡ receivedOf address s → r ≡ k → Comes (receivedIn s k)
-came address s e t = subst Comes (sym e ∙ ap (receivedIn s) t) (comes address s)
+pub came : (address : ℕ) (s : List ℕ) {r k : Received} → received_in s r ≡ received_of address s → r ≡ k → Comes (received_in s k)
+came address s e t = subst Comes (sym e ∙ ap (received_in s) t) (comes address s)
 
 -- the body of a call stands in its telegram
-pub ask-body : (s : List ℕ) (a : Ask) → askWith a (bodyIn s a) ≡ askIn s a
-ask-body s ask.SlaveDiag = refl
-ask-body s (ask.Write slot index start len) = refl
-ask-body s ask.Poll = refl
-ask-body s ask.Unknown = refl
-ask-body s ask.Undecodable = refl
+pub ask_body : (s : List ℕ) (a : Ask) → ask_with a (body_in s a) ≡ ask_in s a
+ask_body s ask.SlaveDiag = refl
+ask_body s (ask.Write slot index start len) = refl
+ask_body s ask.Poll = refl
+ask_body s ask.Unknown = refl
+ask_body s ask.Undecodable = refl
 
 -- ---- replies
 
@@ -95,10 +95,10 @@ opens {out = out} a b f =
 
 -- a new call, carried out
 pub carried : (diag : List ℕ) (p : Printer) (fcb : Bool) (sa : ℕ) (d : Deed) (body lengths bodies out : List ℕ) {lengths' bodies' out' : List ℕ} {n : ℕ} {q : Printer}
-    → slots_of lengths' bodies' ≡ slotsAfter d.target body (slots_of lengths bodies)
-    → AtFront (replyBytes diag p.address sa (replyIn d.reply)) out out' n
-    → q ≡ renewed p fcb sa n (deedIn d body (slots_of lengths bodies))
-    → leaving (reaction.Heard q n) lengths' bodies' out' ≡ stepped (newCall diag (lending p lengths bodies out) fcb sa (deedIn d body (slots_of lengths bodies)))
+    → slots_of lengths' bodies' ≡ slots_after d.target body (slots_of lengths bodies)
+    → AtFront (reply_bytes diag p.address sa (reply_in d.reply)) out out' n
+    → q ≡ renewed p fcb sa n (deed_in d body (slots_of lengths bodies))
+    → leaving (reaction.Heard q n) lengths' bodies' out' ≡ stepped (new_call diag (lending p lengths bodies out) fcb sa (deed_in d body (slots_of lengths bodies)))
 carried diag p fcb sa d body lengths bodies out {out' = out'} {n} {q} kept front next =
     ap (λ (s : Slots). leaving (reaction.Heard q n) s.lengths s.bodies out') kept
     ∙ rw (next, front.counted, front.bytes)

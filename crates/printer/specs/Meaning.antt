@@ -6,12 +6,12 @@ use Rattle.printer_input.specs.declared.Ask.{Ask}
 use Rattle.printer_input.specs.declared.Ask.TheVariants as ask
 
 -- the body that a call carries: a write's
-abbrev pub bodyIn : (telegram : List ℕ) → Ask → List ℕ
-bodyIn s ask.SlaveDiag = []
-bodyIn s (ask.Write slot index start len) = part_of s start len
-bodyIn s ask.Poll = []
-bodyIn s ask.Unknown = []
-bodyIn s ask.Undecodable = []
+abbrev pub body_in : (telegram : List ℕ) → Ask → List ℕ
+body_in s ask.SlaveDiag = []
+body_in s (ask.Write slot index start len) = part_of s start len
+body_in s ask.Poll = []
+body_in s ask.Unknown = []
+body_in s ask.Undecodable = []
 
 -- the slots, as code has them
 abbrev pub slots_of : (lengths bodies : List ℕ) → Slots

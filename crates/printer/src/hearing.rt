@@ -1,11 +1,11 @@
 // The printer's step (document 01, "Printer rules", first that fits): each case of what was received.
 ghost use Rattle.std.specs.Prelude.{◌≡◌, List, ℕ, length};
-ghost use Rattle.printer_input.specs.Meaning.{askIn};
-ghost use Rattle.protocol.specs.Printer.{openingReply, counted, dropHeld, opened, replyBytes, newCall, heardBy, hear, lending, leaving, stepped, step_of};
-ghost use Rattle.protocol.specs.Telegrams.{bareBytes};
+ghost use Rattle.printer_input.specs.Meaning.{ask_in};
+ghost use Rattle.protocol.specs.Printer.{opening_reply, counted, drop_held, opened, reply_bytes, new_call, heard_by, hear, lending, leaving, stepped, step_of};
+ghost use Rattle.protocol.specs.Telegrams.{bare_bytes};
 ghost use Rattle.protocol.specs.declared.printer.Reaction.TheVariants as reaction;
-ghost use Rattle.printer_rules.specs.Meaning.{askWith, deedIn, Fits};
-ghost use Rattle.printer.specs.Meaning.{bodyIn, slots_of};
+ghost use Rattle.printer_rules.specs.Meaning.{ask_with, deed_in, Fits};
+ghost use Rattle.printer.specs.Meaning.{body_in, slots_of};
 ghost use Rattle.printer.specs.Ready.{Usable, Between, Ready, Sends};
 
 use crate::replies::{say, say_bare};
@@ -16,7 +16,7 @@ use protocol::{Check, Printer, Reaction};
 
 // The body that a call carries: the part of the telegram that a write names.
 fn body_of(telegram: &[u8], ask: Ask) -> &[u8]
-    ensures { result.now ≡ bodyIn telegram.now ask }
+    ensures { result.now ≡ body_in telegram.now ask }
 {
     match ask {
         Ask::SlaveDiag => &telegram[..0],
@@ -34,7 +34,7 @@ fn body_of(telegram: &[u8], ask: Ask) -> &[u8]
 
 // A call to another station, or an uncounted one, drops the held reply and gets no answer.
 fn quiet(printer: Printer) -> Reaction
-    ensures { result ≡ reaction.Heard (dropHeld printer) 0 }
+    ensures { result ≡ reaction.Heard (drop_held printer) 0 }
 {
     Reaction::Heard {
         printer: printer_state::drop_held(printer),
@@ -45,7 +45,7 @@ fn quiet(printer: Printer) -> Reaction
 // FDL status gets bare function 0, which is not held.
 fn status(printer: Printer, sa: u8, out: &mut [u8]) -> Reaction
     requires { Between printer.address sa out.old }
-    ensures { Sends (dropHeld printer) (bareBytes sa printer.address 0) out.old out.new result }
+    ensures { Sends (drop_held printer) (bare_bytes sa printer.address 0) out.old out.new result }
 {
     let count = say_bare(Status::Ok, printer.address, sa, out);
     Reaction::Heard {
@@ -57,7 +57,7 @@ fn status(printer: Printer, sa: u8, out: &mut [u8]) -> Reaction
 // An opening call gets its reply, which is not held either.
 fn open(printer: Printer, sa: u8, ask: Ask, diagnosis: &[u8], out: &mut [u8]) -> Reaction
     requires { Ready diagnosis.now printer.address sa out.old }
-    ensures { (body : List ℕ) → Sends (opened printer sa) (replyBytes diagnosis.now printer.address sa (openingReply (askWith ask body))) out.old out.new result }
+    ensures { (body : List ℕ) → Sends (opened printer sa) (reply_bytes diagnosis.now printer.address sa (opening_reply (ask_with ask body))) out.old out.new result }
 {
     let reply = printer_rules::opening_reply(ask);
     let count = say(reply, printer.address, sa, diagnosis, out);
@@ -81,8 +81,8 @@ fn act(
 ) -> Reaction
     requires { Ready diagnosis.now printer.address sa out.old × Fits deed.target (length body.now) }
     ensures { leaving result lengths.new bodies.new out.new
-        ≡ stepped (newCall diagnosis.now (lending printer lengths.old bodies.old out.old) fcb sa
-        (deedIn deed body.now (slots_of lengths.old bodies.old))) }
+        ≡ stepped (new_call diagnosis.now (lending printer lengths.old bodies.old out.old) fcb sa
+        (deed_in deed body.now (slots_of lengths.old bodies.old))) }
 {
     let target = deed.target;
     let reply = deed.reply;
@@ -109,7 +109,7 @@ fn counted(
 ) -> Reaction
     requires { Ready diagnosis.now printer.address sa out.old }
     ensures { leaving result lengths.new bodies.new out.new
-        ≡ stepped (heardBy diagnosis.now not_yet (counted fcb sa (askIn telegram.now ask)) (lending printer lengths.old bodies.old out.old)) }
+        ≡ stepped (heard_by diagnosis.now not_yet (counted fcb sa (ask_in telegram.now ask)) (lending printer lengths.old bodies.old out.old)) }
 {
     if printer_state::is_repeat(printer, fcb, sa) {
         return Reaction::Heard {

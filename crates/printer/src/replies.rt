@@ -2,13 +2,13 @@
 // ones stand in SD1, data in SD2.
 ghost use Rattle.std.specs.Prelude.{◌≡◌, [], ◌≤◌, length};
 ghost use Rattle.octets.specs.Front.{AtFront};
-ghost use Rattle.fdl.specs.Writing.{confirmationBytes};
-ghost use Rattle.content.specs.Writing.{bytesFor};
+ghost use Rattle.fdl.specs.Writing.{confirmation_bytes};
+ghost use Rattle.content.specs.Writing.{bytes_for};
 ghost use Rattle.content.specs.declared.fields.Content.TheVariants as content;
-ghost use Rattle.protocol.specs.Check.{storedIn};
-ghost use Rattle.protocol.specs.Printer.{replyBytes};
-ghost use Rattle.protocol.specs.Telegrams.{bareBytes, diagnosisBytes, answer_of, outcomeBytes};
-ghost use Rattle.printer_rules.specs.Meaning.{functionOf, replyIn};
+ghost use Rattle.protocol.specs.Check.{stored_in};
+ghost use Rattle.protocol.specs.Printer.{reply_bytes};
+ghost use Rattle.protocol.specs.Telegrams.{bare_bytes, diagnosis_bytes, answer_of, outcome_bytes};
+ghost use Rattle.printer_rules.specs.Meaning.{function_of, reply_in};
 ghost use Rattle.printer.specs.Ready.{Between, Ready};
 
 use access::Service;
@@ -24,7 +24,7 @@ const DATA: u8 = 8;
 const RESULT_LENGTH: usize = 4;
 
 fn function_of(status: Status) -> u8
-    ensures { result ≡ functionOf status }
+    ensures { result ≡ function_of status }
 {
     match status {
         Status::Ok => 0,
@@ -36,8 +36,8 @@ fn function_of(status: Status) -> u8
 
 // How many bytes a writer stored: no telegram has more than 255.
 fn stored(written: Written) -> u8
-    requires { storedIn written ≤ 255 }
-    ensures { result ≡ storedIn written }
+    requires { stored_in written ≤ 255 }
+    ensures { result ≡ stored_in written }
 {
     match written {
         Written::Stored(count) => count as u8,
@@ -47,14 +47,14 @@ fn stored(written: Written) -> u8
 
 fn say_confirmation(out: &mut [u8]) -> u8
     requires { 255 ≤ length out.old }
-    ensures { AtFront confirmationBytes out.old out.new result }
+    ensures { AtFront confirmation_bytes out.old out.new result }
 {
     stored(framing::write_confirmation(out))
 }
 
 pub(crate) fn say_bare(status: Status, address: u8, to: u8, out: &mut [u8]) -> u8
     requires { Between address to out.old }
-    ensures { AtFront (bareBytes to address (functionOf status)) out.old out.new result }
+    ensures { AtFront (bare_bytes to address (function_of status)) out.old out.new result }
 {
     let header = Header {
         da: to,
@@ -68,7 +68,7 @@ pub(crate) fn say_bare(status: Status, address: u8, to: u8, out: &mut [u8]) -> u
 
 fn say_diagnosis(diagnosis: &[u8], address: u8, to: u8, out: &mut [u8]) -> u8
     requires { Ready diagnosis.now address to out.old }
-    ensures { AtFront (diagnosisBytes to address diagnosis.now) out.old out.new result }
+    ensures { AtFront (diagnosis_bytes to address diagnosis.now) out.old out.new result }
 {
     let header = routing::header_of(Service::SlaveDiag, to, address, DATA);
     stored(fdl_writer::write(Format::Sd2, header, diagnosis, out))
@@ -77,7 +77,7 @@ fn say_diagnosis(diagnosis: &[u8], address: u8, to: u8, out: &mut [u8]) -> u8
 // The four bytes of a result: 5F with slot, index and length, or DF with decode 128 and both codes.
 fn put_result(outcome: Outcome, out: &mut [u8]) -> usize
     requires { 4 ≤ length out.old }
-    ensures { AtFront (bytesFor (content.Dpv1Answer (answer_of outcome)) []) out.old out.new result }
+    ensures { AtFront (bytes_for (content.Dpv1Answer (answer_of outcome)) []) out.old out.new result }
 {
     match outcome {
         Outcome::Positive {
@@ -103,7 +103,7 @@ fn put_result(outcome: Outcome, out: &mut [u8]) -> usize
 // A result goes straight to its place in the telegram, which is then made around it.
 fn say_result(outcome: Outcome, address: u8, to: u8, out: &mut [u8]) -> u8
     requires { Between address to out.old }
-    ensures { AtFront (outcomeBytes to address outcome) out.old out.new result }
+    ensures { AtFront (outcome_bytes to address outcome) out.old out.new result }
 {
     let header = routing::header_of(Service::Dpv1, to, address, DATA);
     let start = framing::user_start(Format::Sd2, header);
@@ -114,7 +114,7 @@ fn say_result(outcome: Outcome, address: u8, to: u8, out: &mut [u8]) -> u8
 // Makes a reply to the station `to` at the front of out, and answers how many bytes it has.
 pub(crate) fn say(reply: Reply, address: u8, to: u8, diagnosis: &[u8], out: &mut [u8]) -> u8
     requires { Ready diagnosis.now address to out.old }
-    ensures { AtFront (replyBytes diagnosis.now address to (replyIn reply)) out.old out.new result }
+    ensures { AtFront (reply_bytes diagnosis.now address to (reply_in reply)) out.old out.new result }
 {
     match reply {
         Reply::Confirmation => say_confirmation(out),

@@ -1,7 +1,7 @@
 // A write's body into its slot.
 ghost use Rattle.std.specs.Prelude.{◌≡◌, ◌≤◌, length};
 ghost use Rattle.protocol.specs.Slots.{written};
-ghost use Rattle.printer_rules.specs.Meaning.{slotsAfter, Fits};
+ghost use Rattle.printer_rules.specs.Meaning.{slots_after, Fits};
 ghost use Rattle.printer.specs.Meaning.{slots_of};
 
 use printer_rules::Target;
@@ -19,7 +19,7 @@ fn fill(index: u8, body: &[u8], lengths: &mut [u8; 16], bodies: &mut [u8; 3200])
 // What a deed does to the slots.
 pub(crate) fn keep(target: Target, body: &[u8], lengths: &mut [u8; 16], bodies: &mut [u8; 3200])
     requires { Fits target (length body.now) }
-    ensures { slots_of lengths.new bodies.new ≡ slotsAfter target body.now (slots_of lengths.old bodies.old) }
+    ensures { slots_of lengths.new bodies.new ≡ slots_after target body.now (slots_of lengths.old bodies.old) }
 {
     match target {
         Target::Untouched => {}

@@ -17,8 +17,8 @@ use Rattle.printer_bytes.specs.declared.state.PrinterFound.TheVariants as printe
 -- ---- what bytes are the state of
 
 -- 0 for none, 1 for a positive result, 2 for a negative one
-unfoldable pub pendingBy : (kind first second third wait : ℕ) → PendingFound
-pendingBy kind first second third wait =
+unfoldable pub pending_by : (kind first second third wait : ℕ) → PendingFound
+pending_by kind first second third wait =
     pick (eqb kind 0) (pending-found.Is pending.Nothing)
     (pick (eqb kind 1) (pending-found.Is (pending.Result (outcome.Positive first second third) wait))
     (pick (eqb kind 2) (pending-found.Is (pending.Result (outcome.Negative first second) wait)) pending-found.Unknown))
@@ -38,24 +38,24 @@ found s (pending-found.Is p) =
 found s pending-found.Unknown = printer-found.Unknown
 
 -- neither test is above 1, and the kind of the pending result is known
-unfoldable pub printerIn : (state : List ℕ) → PrinterFound
-printerIn s =
+unfoldable pub printer_in : (state : List ℕ) → PrinterFound
+printer_in s =
     pick (ltb 1 (get_or s 1 0)) printer-found.Unknown
     (pick (ltb 1 (get_or s 2 0)) printer-found.Unknown
-    (found s (pendingBy (get_or s 5 0) (get_or s 6 0) (get_or s 7 0) (get_or s 8 0) (get_or s 9 0))))
+    (found s (pending_by (get_or s 5 0) (get_or s 6 0) (get_or s 7 0) (get_or s 8 0) (get_or s 9 0))))
 
 -- ---- the bytes of a state
 
-abbrev pub outcomeBytes : Outcome → (wait : ℕ) → List ℕ
-outcomeBytes (outcome.Positive slot index len) wait = 1 ∷ slot ∷ index ∷ len ∷ wait ∷ []
-outcomeBytes (outcome.Negative code1 code2) wait = 2 ∷ code1 ∷ code2 ∷ 0 ∷ wait ∷ []
+abbrev pub outcome_bytes : Outcome → (wait : ℕ) → List ℕ
+outcome_bytes (outcome.Positive slot index len) wait = 1 ∷ slot ∷ index ∷ len ∷ wait ∷ []
+outcome_bytes (outcome.Negative code1 code2) wait = 2 ∷ code1 ∷ code2 ∷ 0 ∷ wait ∷ []
 
-abbrev pub pendingBytes : Pending → List ℕ
-pendingBytes pending.Nothing = 0 ∷ 0 ∷ 0 ∷ 0 ∷ 0 ∷ []
-pendingBytes (pending.Result o wait) = outcomeBytes o wait
+abbrev pub pending_bytes : Pending → List ℕ
+pending_bytes pending.Nothing = 0 ∷ 0 ∷ 0 ∷ 0 ∷ 0 ∷ []
+pending_bytes (pending.Result o wait) = outcome_bytes o wait
 
-abbrev pub fiveBytes : Five → List ℕ
-fiveBytes f = f.0 ∷ f.1 ∷ f.2 ∷ f.3 ∷ f.4 ∷ []
+abbrev pub five_bytes : Five → List ℕ
+five_bytes f = f.0 ∷ f.1 ∷ f.2 ∷ f.3 ∷ f.4 ∷ []
 
 -- five bytes in the middle of the state
 abbrev pub around : Printer → (five : List ℕ) → List ℕ
@@ -63,5 +63,5 @@ around p f =
     p.address ∷ bit_of p.boarding ∷ bit_of p.fcb ∷ p.sa ∷ p.held ∷ get_or f 0 0 ∷ get_or f 1 0 ∷ get_or f 2 0 ∷ get_or f 3 0 ∷ get_or f 4 0
     ∷ p.writes ∷ []
 
-abbrev pub printerBytes : Printer → List ℕ
-printerBytes p = around p (pendingBytes p.pending)
+abbrev pub printer_bytes : Printer → List ℕ
+printer_bytes p = around p (pending_bytes p.pending)

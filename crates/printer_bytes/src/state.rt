@@ -1,6 +1,6 @@
 // The printer's state as eleven bytes.
 ghost use Rattle.std.specs.Prelude.{◌≡◌};
-ghost use Rattle.printer_bytes.specs.State.{pendingBy, printerIn, pendingBytes, fiveBytes, printerBytes};
+ghost use Rattle.printer_bytes.specs.State.{pending_by, printer_in, pending_bytes, five_bytes, printer_bytes};
 
 use octets::bit_of;
 use protocol::{Outcome, Pending, Printer};
@@ -23,7 +23,7 @@ enum PendingFound {
 struct Five(u8, u8, u8, u8, u8);
 
 fn pending_by(kind: u8, first: u8, second: u8, third: u8, wait: u8) -> PendingFound
-    ensures { result ≡ pendingBy kind first second third wait }
+    ensures { result ≡ pending_by kind first second third wait }
 {
     match kind {
         0 => PendingFound::Is(Pending::Nothing),
@@ -49,7 +49,7 @@ fn pending_by(kind: u8, first: u8, second: u8, third: u8, wait: u8) -> PendingFo
 // The printer that the bytes are the state of: neither test is above 1, and the kind of the pending result
 // is known.
 pub fn printer_in(state: &[u8; 11]) -> PrinterFound
-    ensures { result ≡ printerIn state.now }
+    ensures { result ≡ printer_in state.now }
 {
     if 1 < state[1] {
         return PrinterFound::Unknown;
@@ -73,7 +73,7 @@ pub fn printer_in(state: &[u8; 11]) -> PrinterFound
 }
 
 fn pending_bytes(pending: Pending) -> Five
-    ensures { fiveBytes result ≡ pendingBytes pending }
+    ensures { five_bytes result ≡ pending_bytes pending }
 {
     match pending {
         Pending::Nothing => Five(0, 0, 0, 0, 0),
@@ -90,7 +90,7 @@ fn pending_bytes(pending: Pending) -> Five
 
 // Stores a printer's state.
 pub fn put_printer(printer: Printer, state: &mut [u8; 11])
-    ensures { state.new ≡ printerBytes printer }
+    ensures { state.new ≡ printer_bytes printer }
 {
     let pending = printer.pending;
     let five = pending_bytes(pending);

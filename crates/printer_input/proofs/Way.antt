@@ -3,42 +3,42 @@ use Prim.Native.Nat.{ℕ, ◌%◌}
 use mathlib.Core.Path.{◌≡◌, refl, sym, ap, ◌∙◌}
 use mathlib.Core.Bool.{Bool, true, false}
 use lib.Dec.{eqb}
-use Rattle.octets.specs.Choice.{by-pick, never}
+use Rattle.octets.specs.Choice.{by_pick, never}
 use Rattle.function_code.specs.declared.code.Class.{Class}
 use Rattle.function_code.specs.declared.code.Class.TheVariants as class
 use Rattle.fdl.specs.declared.telegram.Header.{Header}
 use Rattle.fdl.specs.declared.telegram.Sap.{Sap}
-use Rattle.access.specs.Route.{isGlobalControl, named_by, callRoute, commandRoute, kindBy, routeBy}
+use Rattle.access.specs.Route.{is_global_control, named_by, call_route, command_route, kind_by, route_by}
 use Rattle.access.specs.declared.route.Answering.{Answering}
 use Rattle.access.specs.declared.route.Kind.{Kind}
 use Rattle.access.specs.declared.table.Named.{Named}
 use Rattle.access.specs.declared.table.Named.TheVariants.{Is, Nothing}
 use Rattle.access.specs.declared.route.Route.{Route}
 use Rattle.access.specs.declared.route.Route.TheVariants as route
-use Rattle.protocol.specs.Printer.{isCall}
+use Rattle.protocol.specs.Printer.{is_call}
 
-abbrev isAnswer : Route → Bool
-isAnswer route.Nowhere = false
-isAnswer (route.Call s) = false
-isAnswer (route.Answer a) = true
+abbrev is_answer : Route → Bool
+is_answer route.Nowhere = false
+is_answer (route.Call s) = false
+is_answer (route.Answer a) = true
 
-call-way : (n : Named) → isAnswer (callRoute n) ≡ false
-call-way Nothing = refl
-call-way (Is s) = by-pick (λ (r : Route). isAnswer r ≡ false) (isGlobalControl s) (λ _. refl) (λ _. refl)
+call_way : (n : Named) → is_answer (call_route n) ≡ false
+call_way Nothing = refl
+call_way (Is s) = by_pick (λ (r : Route). is_answer r ≡ false) (is_global_control s) (λ _. refl) (λ _. refl)
 
-command-way : (n : Named) → isAnswer (commandRoute n) ≡ false
-command-way Nothing = refl
-command-way (Is s) = by-pick (λ (r : Route). isAnswer r ≡ false) (isGlobalControl s) (λ _. refl) (λ _. refl)
+command_way : (n : Named) → is_answer (command_route n) ≡ false
+command_way Nothing = refl
+command_way (Is s) = by_pick (λ (r : Route). is_answer r ≡ false) (is_global_control s) (λ _. refl) (λ _. refl)
 
-by-class : (k : Class) (fc : ℕ) (dsap ssap : Sap) → isCall k ≡ true → isAnswer (routeBy (kindBy k fc) dsap ssap) ≡ false
-by-class class.Opening fc dsap ssap e = call-way (named_by dsap ssap)
-by-class class.Counted fc dsap ssap e = call-way (named_by dsap ssap)
-by-class class.Uncounted fc dsap ssap e =
-    by-pick (λ (k : Kind). isAnswer (routeBy k dsap ssap) ≡ false) (eqb (fc % 16) 4) (λ _. command-way (named_by dsap ssap))
-    (λ _. by-pick (λ (k : Kind). isAnswer (routeBy k dsap ssap) ≡ false) (eqb (fc % 16) 6) (λ _. command-way (named_by dsap ssap)) (λ _. refl))
-by-class class.Bare fc dsap ssap e = absurd (never e)
-by-class class.Data fc dsap ssap e = absurd (never e)
-by-class class.Reserved fc dsap ssap e = absurd (never e)
+by_class : (k : Class) (fc : ℕ) (dsap ssap : Sap) → is_call k ≡ true → is_answer (route_by (kind_by k fc) dsap ssap) ≡ false
+by_class class.Opening fc dsap ssap e = call_way (named_by dsap ssap)
+by_class class.Counted fc dsap ssap e = call_way (named_by dsap ssap)
+by_class class.Uncounted fc dsap ssap e =
+    by_pick (λ (k : Kind). is_answer (route_by k dsap ssap) ≡ false) (eqb (fc % 16) 4) (λ _. command_way (named_by dsap ssap))
+    (λ _. by_pick (λ (k : Kind). is_answer (route_by k dsap ssap) ≡ false) (eqb (fc % 16) 6) (λ _. command_way (named_by dsap ssap)) (λ _. refl))
+by_class class.Bare fc dsap ssap e = absurd (never e)
+by_class class.Data fc dsap ssap e = absurd (never e)
+by_class class.Reserved fc dsap ssap e = absurd (never e)
 
-pub no_answer : (k : Class) (h : Header) (a : Answering) → isCall k ≡ true → routeBy (kindBy k h.fc) h.dsap h.ssap ≡ route.Answer a → ⊥
-no_answer k h a e way = never (sym (by-class k h.fc h.dsap h.ssap e) ∙ ap isAnswer way)
+pub no_answer : (k : Class) (h : Header) (a : Answering) → is_call k ≡ true → route_by (kind_by k h.fc) h.dsap h.ssap ≡ route.Answer a → ⊥
+no_answer k h a e way = never (sym (by_class k h.fc h.dsap h.ssap e) ∙ ap is_answer way)

@@ -7,17 +7,17 @@ use Rattle.printer_input.specs.declared.Ask.TheVariants as ask
 use Rattle.printer_input.specs.declared.Received.{Received}
 use Rattle.printer_input.specs.declared.Received.TheVariants as received
 
-abbrev pub askIn : (telegram : List ℕ) → Ask → printer.Ask
-askIn s ask.SlaveDiag = printer.slaveDiag
-askIn s (ask.Write slot index start len) = printer.write slot index (part_of s start len)
-askIn s ask.Poll = printer.poll
-askIn s ask.Unknown = printer.unknown
-askIn s ask.Undecodable = printer.undecodable
+abbrev pub ask_in : (telegram : List ℕ) → Ask → printer.Ask
+ask_in s ask.SlaveDiag = printer.slave_diag
+ask_in s (ask.Write slot index start len) = printer.write slot index (part_of s start len)
+ask_in s ask.Poll = printer.poll
+ask_in s ask.Unknown = printer.unknown
+ask_in s ask.Undecodable = printer.undecodable
 
-abbrev pub receivedIn : (telegram : List ℕ) → Received → printer.Received
-receivedIn s received.Nothing = printer.nothing
-receivedIn s received.Elsewhere = printer.elsewhere
-receivedIn s (received.Status sa) = printer.status sa
-receivedIn s received.Uncounted = printer.uncounted
-receivedIn s (received.Opening sa a) = printer.opening sa (askIn s a)
-receivedIn s (received.Counted fcb sa a) = printer.counted fcb sa (askIn s a)
+abbrev pub received_in : (telegram : List ℕ) → Received → printer.Received
+received_in s received.Nothing = printer.nothing
+received_in s received.Elsewhere = printer.elsewhere
+received_in s (received.Status sa) = printer.status sa
+received_in s received.Uncounted = printer.uncounted
+received_in s (received.Opening sa a) = printer.opening sa (ask_in s a)
+received_in s (received.Counted fcb sa a) = printer.counted fcb sa (ask_in s a)

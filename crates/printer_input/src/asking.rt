@@ -3,18 +3,18 @@
 ghost use Rattle.std.specs.Prelude.{◌≡◌, true, List, ℕ, ◌+◌, ◌≤◌, length};
 ghost use Rattle.octets.specs.Part.{part_of};
 ghost use Rattle.octets.specs.declared.Mode.TheVariants.{Dpv1};
-ghost use Rattle.function_code.specs.Code.{classOf};
+ghost use Rattle.function_code.specs.Code.{class_of};
 ghost use Rattle.fdl.specs.Reading.{read_of};
 ghost use Rattle.fdl.specs.declared.telegram.Format.{Format};
 ghost use Rattle.fdl.specs.declared.telegram.Header.{Header};
 ghost use Rattle.fdl.specs.declared.reading.Reading.TheVariants.{Telegram};
-ghost use Rattle.access.specs.Route.{routeOf};
+ghost use Rattle.access.specs.Route.{route_of};
 ghost use Rattle.content.specs.Reading.{end_of};
-ghost use Rattle.service.specs.Reading.{placed_at, routedBy};
+ghost use Rattle.service.specs.Reading.{placed_at, routed_by};
 ghost use Rattle.service.specs.declared.reading.Way.TheVariants as way;
 ghost use Rattle.service.specs.declared.reading.Reading.TheVariants.{Refused};
 ghost use Rattle.protocol.specs.Printer as printer;
-ghost use Rattle.printer_input.specs.Meaning.{askIn};
+ghost use Rattle.printer_input.specs.Meaning.{ask_in};
 
 use crate::Ask;
 use access::Route;
@@ -26,7 +26,7 @@ use octets::{Mode, Refusal};
 
 // A write, a poll for its result, or a DPV1 function that the printer does not have.
 fn asked_of_dpv1(call: Call, start: usize, len: usize) -> Ask
-    ensures { (s : List ℕ) → askIn s result ≡ printer.askOfDpv1 call (part_of s start len) }
+    ensures { (s : List ℕ) → ask_in s result ≡ printer.ask_of_dpv1 call (part_of s start len) }
 {
     match call {
         Call::Poll => Ask::Poll,
@@ -53,7 +53,7 @@ fn asked_of_dpv1(call: Call, start: usize, len: usize) -> Ask
 
 // Slave_Diag, a DPV1 call, or a service that the printer does not have.
 fn asked_of(content: Content, start: usize, len: usize) -> Ask
-    ensures { (s : List ℕ) → askIn s result ≡ printer.askOf content (part_of s start len) }
+    ensures { (s : List ℕ) → ask_in s result ≡ printer.ask_of content (part_of s start len) }
 {
     match content {
         Content::DataExchange => Ask::Unknown,
@@ -74,7 +74,7 @@ fn asked_of(content: Content, start: usize, len: usize) -> Ask
 
 // 10 says that there is no such service; any other refusal that the data cannot be read.
 fn refused(refusal: Refusal) -> Ask
-    ensures { (s : List ℕ) → askIn s result ≡ printer.askBy s (Refused refusal) }
+    ensures { (s : List ℕ) → ask_in s result ≡ printer.ask_by s (Refused refusal) }
 {
     if refusal.number == 10 {
         return Ask::Unknown;
@@ -85,7 +85,7 @@ fn refused(refusal: Refusal) -> Ask
 // What is asked for, by what the reader of user data says, which stand at `at` in the telegram.
 fn asked_by(at: usize, found: UserData) -> Ask
     requires { at + end_of found ≤ 255 }
-    ensures { (s : List ℕ) (f : Format) (h : Header) → askIn s result ≡ printer.askBy s (placed_at f h way.Call at found) }
+    ensures { (s : List ℕ) (f : Format) (h : Header) → ask_in s result ≡ printer.ask_by s (placed_at f h way.Call at found) }
 {
     match found {
         UserData::Is {
@@ -100,8 +100,8 @@ fn asked_by(at: usize, found: UserData) -> Ask
 // What a call with this header asks for, whose function code is of this class and whose user data stand at `at`. No
 // header of a call names an answer. The printer reads parameters as DPV1.
 fn routed(class: Class, header: Header, at: usize, user: &[u8]) -> Ask
-    requires { (class ≡ classOf header.fc) × (printer.isCall class ≡ true) × (at + length user.now ≤ 255) }
-    ensures { (s : List ℕ) (f : Format) → askIn s result ≡ printer.askBy s (routedBy (routeOf header) f header at user.now Dpv1) }
+    requires { (class ≡ class_of header.fc) × (printer.is_call class ≡ true) × (at + length user.now ≤ 255) }
+    ensures { (s : List ℕ) (f : Format) → ask_in s result ≡ printer.ask_by s (routed_by (route_of header) f header at user.now Dpv1) }
 {
     let route = routing::route_by(class, header);
     match route {
@@ -116,7 +116,7 @@ fn routed(class: Class, header: Header, at: usize, user: &[u8]) -> Ask
 
 // Send and request data (SRD), low or high.
 fn is_srd(fc: u8) -> bool
-    ensures { result ≡ printer.isSrd fc }
+    ensures { result ≡ printer.is_srd fc }
 {
     if fc % 16 == 12 {
         return true;
@@ -133,8 +133,8 @@ pub(crate) fn asked_in(
     start: usize,
     len: usize,
 ) -> Ask
-    requires { (class ≡ classOf header.fc) × (printer.isCall class ≡ true) × (start + len ≤ 255) }
-    ensures { (f : Format) → Telegram f header start len ≡ read_of telegram.now → askIn telegram.now result ≡ printer.askIn telegram.now header.fc }
+    requires { (class ≡ class_of header.fc) × (printer.is_call class ≡ true) × (start + len ≤ 255) }
+    ensures { (f : Format) → Telegram f header start len ≡ read_of telegram.now → ask_in telegram.now result ≡ printer.ask_in telegram.now header.fc }
 {
     if !is_srd(header.fc) {
         return Ask::Unknown;

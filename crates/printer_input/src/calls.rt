@@ -1,12 +1,12 @@
 // A call to this printer, by the class of its function code.
 ghost use Rattle.std.specs.Prelude.{◌≡◌, true, List, ℕ, ◌+◌, ◌≤◌};
-ghost use Rattle.function_code.specs.Code.{classOf};
+ghost use Rattle.function_code.specs.Code.{class_of};
 ghost use Rattle.fdl.specs.Reading.{read_of};
 ghost use Rattle.fdl.specs.declared.telegram.Format.{Format};
 ghost use Rattle.fdl.specs.declared.reading.Reading.TheVariants.{Telegram};
 ghost use Rattle.function_code.specs.declared.code.Class.TheVariants.{Uncounted};
-ghost use Rattle.protocol.specs.Printer.{isCall, fcbOf, calledBy};
-ghost use Rattle.printer_input.specs.Meaning.{receivedIn};
+ghost use Rattle.protocol.specs.Printer.{is_call, fcb_of, called_by};
+ghost use Rattle.printer_input.specs.Meaning.{received_in};
 
 use crate::Received;
 use crate::asking::asked_in;
@@ -15,7 +15,7 @@ use function_code::Class;
 
 // Whether a function code of this class makes a call.
 pub(crate) fn is_call(class: Class) -> bool
-    ensures { result ≡ isCall class }
+    ensures { result ≡ is_call class }
 {
     match class {
         Class::Opening => true,
@@ -29,14 +29,14 @@ pub(crate) fn is_call(class: Class) -> bool
 
 // FCB is bit 5.
 fn fcb_of(fc: u8) -> bool
-    ensures { result ≡ fcbOf fc }
+    ensures { result ≡ fcb_of fc }
 {
     fc / 32 % 2 == 1
 }
 
 // FDL status is function 9.
 fn uncounted(header: Header) -> Received
-    ensures { (s : List ℕ) → receivedIn s result ≡ calledBy Uncounted s header }
+    ensures { (s : List ℕ) → received_in s result ≡ called_by Uncounted s header }
 {
     if header.fc % 16 == 9 {
         return Received::Status { sa: header.sa };
@@ -54,8 +54,8 @@ pub(crate) fn called(
     start: usize,
     len: usize,
 ) -> Received
-    requires { (class ≡ classOf header.fc) × (isCall class ≡ true) × (start + len ≤ 255) }
-    ensures { (f : Format) → Telegram f header start len ≡ read_of telegram.now → receivedIn telegram.now result ≡ calledBy class telegram.now header }
+    requires { (class ≡ class_of header.fc) × (is_call class ≡ true) × (start + len ≤ 255) }
+    ensures { (f : Format) → Telegram f header start len ≡ read_of telegram.now → received_in telegram.now result ≡ called_by class telegram.now header }
 {
     let ask = asked_in(class, telegram, header, start, len);
     match class {

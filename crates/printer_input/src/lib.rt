@@ -1,12 +1,12 @@
 // What a telegram is to the printer (document 01, "Printer rules"): one case for each rule, and what a call
 // asks for. The telegram is read once, also where it carries a service, and its class is looked up once.
 ghost use Rattle.std.specs.Prelude.{◌≡◌, ◌+◌, ◌≤◌};
-ghost use Rattle.function_code.specs.Code.{classOf};
+ghost use Rattle.function_code.specs.Code.{class_of};
 ghost use Rattle.fdl.specs.Reading.{read_of};
 ghost use Rattle.fdl.specs.declared.telegram.Format.{Format};
 ghost use Rattle.fdl.specs.declared.reading.Reading.TheVariants.{Telegram};
-ghost use Rattle.protocol.specs.Printer.{receivedBy, receivedOf};
-ghost use Rattle.printer_input.specs.Meaning.{receivedIn};
+ghost use Rattle.protocol.specs.Printer.{received_by, received_of};
+ghost use Rattle.printer_input.specs.Meaning.{received_in};
 
 mod asking;
 mod calls;
@@ -57,8 +57,8 @@ fn addressed(
     start: usize,
     len: usize,
 ) -> Received
-    requires { (class ≡ classOf header.fc) × (start + len ≤ 255) }
-    ensures { (f : Format) → Telegram f header start len ≡ read_of telegram.now → receivedIn telegram.now result ≡ receivedBy address telegram.now (Telegram f header start len) }
+    requires { (class ≡ class_of header.fc) × (start + len ≤ 255) }
+    ensures { (f : Format) → Telegram f header start len ≡ read_of telegram.now → received_in telegram.now result ≡ received_by address telegram.now (Telegram f header start len) }
 {
     if !is_call(class) {
         return Received::Nothing;
@@ -71,7 +71,7 @@ fn addressed(
 
 // What a telegram is to the printer with this address.
 pub fn receive(address: u8, telegram: &[u8]) -> Received
-    ensures { receivedIn telegram.now result ≡ receivedOf address telegram.now }
+    ensures { received_in telegram.now result ≡ received_of address telegram.now }
 {
     let reading = fdl_reader::read_classed(telegram);
     match reading {

@@ -6,15 +6,15 @@ use Prim.Native.Nat.{ℕ, zero, suc, ◌-◌, min}
 use native.Mathlib.Omega.{arith}
 use lib.Dec.{eqb, ltb}
 use borrow.Author.Tests.{ltb-false}
-use Rattle.octets.specs.Choice.{by-pick}
+use Rattle.octets.specs.Choice.{by_pick}
 use Rattle.protocol.specs.Printer as printer
-use Rattle.protocol.specs.Printer.{judge, guarded, only, writeDeed, waited}
+use Rattle.protocol.specs.Printer.{judge, guarded, only, write_deed, waited}
 use Rattle.protocol.specs.Slots.{Slots}
 use Rattle.protocol.specs.declared.printer.Outcome.{Outcome}
 use Rattle.protocol.specs.declared.printer.Outcome.TheVariants as outcome
 use Rattle.protocol.specs.declared.printer.Pending.{Pending}
 use Rattle.protocol.specs.declared.printer.Pending.TheVariants as pending
-use Rattle.printer_rules.specs.Meaning.{replyIn, target_of, slotsAfter, untouched, Fits, Does}
+use Rattle.printer_rules.specs.Meaning.{reply_in, target_of, slots_after, untouched, Fits, Does}
 use Rattle.printer_rules.specs.declared.rules.Reply.{Reply}
 use Rattle.printer_rules.specs.declared.rules.Reply.TheVariants as reply
 use Rattle.printer_rules.specs.declared.rules.Target.{Target}
@@ -22,7 +22,7 @@ use Rattle.printer_rules.specs.declared.rules.Deed.{Deed}
 
 -- a deed that fills no slot
 pub keeps : {d : Deed} {p : Pending} {n : ℕ} {r : Reply} (len : ℕ) (meant : List ℕ → Slots → printer.Deed) → d ≡ untouched p n r
-    → ((body : List ℕ) (s : Slots) → only p s n (replyIn r) ≡ meant body s) → Does d len meant
+    → ((body : List ℕ) (s : Slots) → only p s n (reply_in r) ≡ meant body s) → Does d len meant
 keeps len meant e f = subst (λ (d : Deed). Does d len meant) (sym e) (record { same = λ body s _. f body s; fits = tt })
 
 -- one "not yet" fewer
@@ -33,25 +33,25 @@ waits o (suc w) s n e =
     ap (λ (k : ℕ). only (pending.Result o k) s n printer.confirmation) left
 
 -- a write that is performed
-target-slots : (o : Outcome) (index : ℕ) (body : List ℕ) (s : Slots) → slotsAfter (target_of o index) body s ≡ printer.slotsAfter o index body s
-target-slots (outcome.Positive slot i len) index body s = refl
-target-slots (outcome.Negative code1 code2) index body s = refl
+target_slots : (o : Outcome) (index : ℕ) (body : List ℕ) (s : Slots) → slots_after (target_of o index) body s ≡ printer.slots_after o index body s
+target_slots (outcome.Positive slot i len) index body s = refl
+target_slots (outcome.Negative code1 code2) index body s = refl
 
-module _ (boarding : Bool) (notYet n slot index len : ℕ) where
+module _ (boarding : Bool) (not_yet n slot index len : ℕ) where
   target_fits : Fits (target_of (judge boarding slot index len) index) len
   unfolding judge
   target_fits =
-      by-pick (λ (o : Outcome). Fits (target_of o index) len) (not (eqb slot 1)) (λ _. tt) (λ _.
-      by-pick (λ (o : Outcome). Fits (target_of o index) len) (ltb 15 index) (λ _. tt) (λ i.
-      by-pick (λ (o : Outcome). Fits (target_of o index) len) (ltb 200 len) (λ _. tt) (λ l.
-      by-pick (λ (o : Outcome). Fits (target_of o index) len) (guarded boarding index) (λ _. tt) (λ _.
+      by_pick (λ (o : Outcome). Fits (target_of o index) len) (not (eqb slot 1)) (λ _. tt) (λ _.
+      by_pick (λ (o : Outcome). Fits (target_of o index) len) (ltb 15 index) (λ _. tt) (λ i.
+      by_pick (λ (o : Outcome). Fits (target_of o index) len) (ltb 200 len) (λ _. tt) (λ l.
+      by_pick (λ (o : Outcome). Fits (target_of o index) len) (guarded boarding index) (λ _. tt) (λ _.
       (ltb-false 15 index i, ltb-false 200 len l)))))
 
   pub writes : {o : Outcome} {w : ℕ} {t : Target} → o ≡ judge boarding slot index len → w ≡ min 255 (suc n) → t ≡ target_of o index
-      → Does (record { pending = pending.Result o notYet; writes = w; reply = reply.Confirmation; target = t }) len
-      (λ body s. writeDeed boarding notYet pending.Nothing s n slot index body)
+      → Does (record { pending = pending.Result o not_yet; writes = w; reply = reply.Confirmation; target = t }) len
+      (λ body s. write_deed boarding not_yet pending.Nothing s n slot index body)
   writes a b c =
       record {
-        same = λ body s e. rw (c, a, b, e, target-slots (judge boarding slot index len) index body s);
+        same = λ body s e. rw (c, a, b, e, target_slots (judge boarding slot index len) index body s);
         fits = rw (c, a) target_fits;
       }

@@ -19,27 +19,27 @@ use Rattle.printer_rules.specs.declared.rules.Deed.{Deed}
 -- ---- replies
 
 -- the function of a bare reply
-abbrev pub functionOf : Status → ℕ
-functionOf status.Ok = 0
-functionOf status.UserError = 1
-functionOf status.NoResource = 2
-functionOf status.NoService = 3
+abbrev pub function_of : Status → ℕ
+function_of status.Ok = 0
+function_of status.UserError = 1
+function_of status.NoResource = 2
+function_of status.NoService = 3
 
-abbrev pub replyIn : Reply → printer.Reply
-replyIn reply.Confirmation = printer.confirmation
-replyIn (reply.Bare s) = printer.bare (functionOf s)
-replyIn reply.Diagnosis = printer.diagnosis
-replyIn (reply.Result o) = printer.result o
+abbrev pub reply_in : Reply → printer.Reply
+reply_in reply.Confirmation = printer.confirmation
+reply_in (reply.Bare s) = printer.bare (function_of s)
+reply_in reply.Diagnosis = printer.diagnosis
+reply_in (reply.Result o) = printer.result o
 
 -- ---- calls
 
 -- what is asked for, with this body
-abbrev pub askWith : Ask → (body : List ℕ) → printer.Ask
-askWith ask.SlaveDiag body = printer.slaveDiag
-askWith (ask.Write slot index start len) body = printer.write slot index body
-askWith ask.Poll body = printer.poll
-askWith ask.Unknown body = printer.unknown
-askWith ask.Undecodable body = printer.undecodable
+abbrev pub ask_with : Ask → (body : List ℕ) → printer.Ask
+ask_with ask.SlaveDiag body = printer.slave_diag
+ask_with (ask.Write slot index start len) body = printer.write slot index body
+ask_with ask.Poll body = printer.poll
+ask_with ask.Unknown body = printer.unknown
+ask_with ask.Undecodable body = printer.undecodable
 
 -- ---- what a new call does
 
@@ -48,13 +48,13 @@ abbrev pub target_of : Outcome → (index : ℕ) → Target
 target_of (outcome.Positive slot i len) index = target.Slot index
 target_of (outcome.Negative code1 code2) index = target.Untouched
 
-abbrev pub slotsAfter : Target → (body : List ℕ) → Slots → Slots
-slotsAfter target.Untouched body s = s
-slotsAfter (target.Slot i) body s = written i body s
+abbrev pub slots_after : Target → (body : List ℕ) → Slots → Slots
+slots_after target.Untouched body s = s
+slots_after (target.Slot i) body s = written i body s
 
-abbrev pub deedIn : Deed → (body : List ℕ) → Slots → printer.Deed
-deedIn d body s =
-    record { pending = d.pending; slots = slotsAfter d.target body s; writes = d.writes; reply = replyIn d.reply }
+abbrev pub deed_in : Deed → (body : List ℕ) → Slots → printer.Deed
+deed_in d body s =
+    record { pending = d.pending; slots = slots_after d.target body s; writes = d.writes; reply = reply_in d.reply }
 
 -- a deed that fills no slot
 abbrev pub untouched : Pending → (writes : ℕ) → Reply → Deed
@@ -67,5 +67,5 @@ Fits (target.Slot i) len = (i ≤ 15) × (len ≤ 200)
 
 -- a deed with a body of so many bytes is what `protocol` has of it, whatever the slots hold
 pub record Does (d : Deed) (len : ℕ) (meant : (body : List ℕ) → Slots → printer.Deed) : Type 0 where
-  pub same : (body : List ℕ) (s : Slots) → length body ≡ len → deedIn d body s ≡ meant body s
+  pub same : (body : List ℕ) (s : Slots) → length body ≡ len → deed_in d body s ≡ meant body s
   pub fits : Fits d.target len

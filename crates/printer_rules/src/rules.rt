@@ -1,7 +1,7 @@
 // Each rule gives a plan, the deed.
 ghost use Rattle.std.specs.Prelude.{◌≡◌, List, ℕ, suc, min};
-ghost use Rattle.protocol.specs.Printer.{guarded, negative, judge, writeDeed, pollDeed, perform, openingReply};
-ghost use Rattle.printer_rules.specs.Meaning.{replyIn, askWith, target_of, untouched, Does};
+ghost use Rattle.protocol.specs.Printer.{guarded, negative, judge, write_deed, poll_deed, perform, opening_reply};
+ghost use Rattle.printer_rules.specs.Meaning.{reply_in, ask_with, target_of, untouched, Does};
 
 use printer_input::Ask;
 use protocol::{Outcome, Pending, Printer};
@@ -117,7 +117,7 @@ fn untouched(pending: Pending, writes: u8, reply: Reply) -> Deed
 
 // A write is performed at once where no result is pending.
 fn write(printer: Printer, not_yet: u8, slot: u8, index: u8, len: usize) -> Deed
-    ensures { Does result len (λ body s. writeDeed printer.boarding not_yet printer.pending s printer.writes slot index body) }
+    ensures { Does result len (λ body s. write_deed printer.boarding not_yet printer.pending s printer.writes slot index body) }
 {
     let pending = printer.pending;
     match pending {
@@ -142,7 +142,7 @@ fn write(printer: Printer, not_yet: u8, slot: u8, index: u8, len: usize) -> Deed
 
 // A poll gets SC while none is pending or the number of "not yet" is not used up, then the result.
 fn poll(printer: Printer, len: usize) -> Deed
-    ensures { Does result len (λ body s. pollDeed printer.pending s printer.writes) }
+    ensures { Does result len (λ body s. poll_deed printer.pending s printer.writes) }
 {
     let pending = printer.pending;
     match pending {
@@ -162,7 +162,7 @@ fn poll(printer: Printer, len: usize) -> Deed
 
 // What a new call does that carries a body of len bytes.
 pub fn perform(printer: Printer, not_yet: u8, ask: Ask, len: usize) -> Deed
-    ensures { Does result len (λ body s. perform printer.boarding not_yet printer.pending s printer.writes (askWith ask body)) }
+    ensures { Does result len (λ body s. perform printer.boarding not_yet printer.pending s printer.writes (ask_with ask body)) }
 {
     let pending = printer.pending;
     match ask {
@@ -181,7 +181,7 @@ pub fn perform(printer: Printer, not_yet: u8, ask: Ask, len: usize) -> Deed
 
 // What an opening call gets.
 pub fn opening_reply(ask: Ask) -> Reply
-    ensures { (body : List ℕ) → replyIn result ≡ openingReply (askWith ask body) }
+    ensures { (body : List ℕ) → reply_in result ≡ opening_reply (ask_with ask body) }
 {
     match ask {
         Ask::SlaveDiag => Reply::Diagnosis,

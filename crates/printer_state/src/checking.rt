@@ -1,9 +1,9 @@
 // What is judged before any change.
 ghost use Rattle.std.specs.Prelude.{◌≡◌, ltb};
 ghost use Rattle.octets.specs.Choice.{◌or◌};
-ghost use Rattle.protocol.specs.Check.{verdictIn};
-ghost use Rattle.protocol.specs.Printer.{is_refused, lending, verdictOf};
-ghost use Rattle.protocol.specs.Slots.{tooLong};
+ghost use Rattle.protocol.specs.Check.{verdict_in};
+ghost use Rattle.protocol.specs.Printer.{is_refused, lending, verdict_of};
+ghost use Rattle.protocol.specs.Slots.{too_long};
 
 use diagnosis::Reading;
 use protocol::{Check, Printer};
@@ -20,7 +20,7 @@ fn longer(length: u8, long: bool) -> bool
 
 // Whether a slot length is above 200. All are looked at, so that the compiler compares them at once.
 fn long_slot(lengths: &[u8; 16]) -> bool
-    ensures { result ≡ tooLong lengths.now }
+    ensures { result ≡ too_long lengths.now }
 {
     let all = &lengths[..];
     let mut long = false;
@@ -53,7 +53,7 @@ pub fn usable(
     bodies: &[u8; 3200],
     reply: &[u8],
 ) -> Check
-    ensures { verdictIn result ≡ verdictOf diagnosis.now (lending printer lengths.now bodies.now reply.now) }
+    ensures { verdict_in result ≡ verdict_of diagnosis.now (lending printer lengths.now bodies.now reply.now) }
 {
     if 126 < printer.address {
         return Check::Refused(12);

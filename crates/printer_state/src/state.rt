@@ -1,16 +1,16 @@
 // What the printer remembers between two telegrams, and how a repeat is told from a new call.
 ghost use Rattle.std.specs.Prelude.{◌≡◌, List, ℕ};
-ghost use Rattle.protocol.specs.Bits.{sameBit};
-ghost use Rattle.protocol.specs.Printer.{dropHeld, opened, renewed, isRepeat};
+ghost use Rattle.protocol.specs.Bits.{bits_agree};
+ghost use Rattle.protocol.specs.Printer.{drop_held, opened, renewed, is_repeat};
 ghost use Rattle.protocol.specs.Slots.{Slots};
-ghost use Rattle.printer_rules.specs.Meaning.{deedIn};
+ghost use Rattle.printer_rules.specs.Meaning.{deed_in};
 
 use printer_rules::Deed;
 use protocol::{Pending, Printer};
 
 // The printer without its held reply.
 pub fn drop_held(printer: Printer) -> Printer
-    ensures { result ≡ dropHeld printer }
+    ensures { result ≡ drop_held printer }
 {
     let pending = printer.pending;
     Printer {
@@ -41,7 +41,7 @@ pub fn opened(printer: Printer, sa: u8) -> Printer
 
 // After a new call, which holds its reply of so many bytes.
 pub fn renewed(printer: Printer, fcb: bool, sa: u8, held: u8, deed: Deed) -> Printer
-    ensures { (body : List ℕ) (s : Slots) → result ≡ renewed printer fcb sa held (deedIn deed body s) }
+    ensures { (body : List ℕ) (s : Slots) → result ≡ renewed printer fcb sa held (deed_in deed body s) }
 {
     let pending = deed.pending;
     Printer {
@@ -56,14 +56,14 @@ pub fn renewed(printer: Printer, fcb: bool, sa: u8, held: u8, deed: Deed) -> Pri
 }
 
 fn same_bit(a: bool, b: bool) -> bool
-    ensures { result ≡ sameBit a b }
+    ensures { result ≡ bits_agree a b }
 {
     if a { b } else { !b }
 }
 
 // Whether a counted call is the last one again.
 pub fn is_repeat(printer: Printer, fcb: bool, sa: u8) -> bool
-    ensures { result ≡ isRepeat printer fcb sa }
+    ensures { result ≡ is_repeat printer fcb sa }
 {
     if sa == printer.sa {
         return same_bit(fcb, printer.fcb);

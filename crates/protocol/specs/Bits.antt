@@ -2,6 +2,6 @@
 use Rattle.std.specs.Prelude.{Bool, true, false, not}
 
 -- are both the same
-abbrev pub sameBit : Bool → Bool → Bool
-sameBit true b = b
-sameBit false b = not b
+abbrev pub bits_agree : Bool → Bool → Bool
+bits_agree true b = b
+bits_agree false b = not b

@@ -6,11 +6,11 @@ use Rattle.octets.specs.declared.Written.TheVariants as written
 use Rattle.protocol.specs.declared.check.Check.{Check}
 use Rattle.protocol.specs.declared.check.Check.TheVariants.{Fine, Refused}
 
-abbrev pub verdictIn : Check → Verdict
-verdictIn Fine = fine
-verdictIn (Refused k) = fault k
+abbrev pub verdict_in : Check → Verdict
+verdict_in Fine = fine
+verdict_in (Refused k) = fault k
 
 -- how many bytes a writer stored
-abbrev pub storedIn : Written → ℕ
-storedIn (written.Stored n) = n
-storedIn (written.Refused k) = 0
+abbrev pub stored_in : Written → ℕ
+stored_in (written.Stored n) = n
+stored_in (written.Refused k) = 0

@@ -3,14 +3,14 @@ use Rattle.std.specs.Prelude.{ℕ, ◌+◌, ◌*◌, List, [], ◌∷◌, eqb, l
 use Rattle.octets.specs.Choice.{pick}
 use Rattle.octets.specs.Fixed.{judged}
 use Rattle.octets.specs.Front.{Verdict, fine, fault, over}
-use Rattle.book.specs.Contents.{Entry, templatesOf}
+use Rattle.book.specs.Contents.{Entry, templates_of}
 use Rattle.book.specs.Reading as book-format
 use Rattle.protocol.specs.Line as line
-use Rattle.protocol.specs.Line.{Passage, through, requestLost, replyLost, Answered, Sending, go, stop}
+use Rattle.protocol.specs.Line.{Passage, through, request_lost, reply_lost, Answered, Sending, go, stop}
 use Rattle.protocol.specs.Slots.{Slots}
 use Rattle.protocol.specs.Printer as printer
 use Rattle.protocol.specs.Printer.{Station, Heard, hear}
-use Rattle.protocol.specs.Controller.{Move, move_of, settingsVerdict, bookVerdict}
+use Rattle.protocol.specs.Controller.{Move, move_of, settings_verdict, book_verdict}
 use Rattle.protocol.specs.declared.controller.Settings.{Settings}
 use Rattle.protocol.specs.declared.controller.Controller.{Controller}
 use Rattle.protocol.specs.declared.controller.Controller.TheVariants as controller
@@ -24,7 +24,7 @@ use Rattle.protocol.specs.declared.printer.Printer.{Printer}
 pub record Given : Type 0 where
   pub settings : Settings
   pub book : List Entry
-  pub notYet : List ℕ
+  pub not_yet : List ℕ
   pub diagnosis : List ℕ
 
 abbrev pub Config : Type 0
@@ -35,7 +35,7 @@ replied h = record { state = h.station; reply = take h.reply h.station.buffer }
 
 -- the printer hears bytes; the number for a write is the one at the place of the writes performed so far, a missing one 0
 abbrev pub hears : Given → Station → List ℕ → Answered Station
-hears g x s = replied (hear g.diagnosis (get_or g.notYet x.printer.writes 0) s x)
+hears g x s = replied (hear g.diagnosis (get_or g.not_yet x.printer.writes 0) s x)
 
 abbrev pub steps : Given → Controller → (reply : List ℕ) → Move
 steps g o reply = move_of g.settings g.book o reply
@@ -61,37 +61,37 @@ download g l x = after g l x (bound g)
 
 -- ---- over lent bytes
 
-abbrev pub given : Settings → (book notYet diagnosis : List ℕ) → Given
-given c book notYet diagnosis = record { settings = c; book = templatesOf book; notYet = notYet; diagnosis = diagnosis }
+abbrev pub given : Settings → (book not_yet diagnosis : List ℕ) → Given
+given c book not_yet diagnosis = record { settings = c; book = templates_of book; not_yet = not_yet; diagnosis = diagnosis }
 
 -- the line: 0 through, 1 request lost, 2 reply lost
-abbrev pub passageBy : ℕ → Passage
-passageBy b = pick (eqb b 1) requestLost (pick (eqb b 2) replyLost through)
+abbrev pub passage_by : ℕ → Passage
+passage_by b = pick (eqb b 1) request_lost (pick (eqb b 2) reply_lost through)
 
-abbrev pub passagesOf : (line : List ℕ) → List Passage
-passagesOf [] = []
-passagesOf (b ∷ l) = passageBy b ∷ passagesOf l
+abbrev pub passages_of : (line : List ℕ) → List Passage
+passages_of [] = []
+passages_of (b ∷ l) = passage_by b ∷ passages_of l
 
-unfoldable pub lineVerdict : (line : List ℕ) → Verdict
-lineVerdict [] = fine
-lineVerdict (b ∷ l) = pick (ltb 2 b) (fault 12) (lineVerdict l)
+unfoldable pub line_verdict : (line : List ℕ) → Verdict
+line_verdict [] = fine
+line_verdict (b ∷ l) = pick (ltb 2 b) (fault 12) (line_verdict l)
 
 -- room for every telegram
-abbrev pub roomVerdict : (buffer : List ℕ) → Verdict
-roomVerdict buffer = pick (ltb (length buffer) 255) (fault 11) fine
+abbrev pub room_verdict : (buffer : List ℕ) → Verdict
+room_verdict buffer = pick (ltb (length buffer) 255) (fault 11) fine
 
 -- the settings, the book, the line, the printer, and last the room for a request; nothing is sent before
-unfoldable pub verdictOf : Settings → (book line diagnosis : List ℕ) → Station → (request : List ℕ) → Verdict
-verdictOf c book l diagnosis x request =
-    judged fault (settingsVerdict c)
-    (judged fault (bookVerdict (book-format.read_of book))
-    (judged fault (lineVerdict l)
-    (judged fault (printer.verdictOf diagnosis x) (roomVerdict request))))
+unfoldable pub verdict_of : Settings → (book line diagnosis : List ℕ) → Station → (request : List ℕ) → Verdict
+verdict_of c book l diagnosis x request =
+    judged fault (settings_verdict c)
+    (judged fault (book_verdict (book-format.read_of book))
+    (judged fault (line_verdict l)
+    (judged fault (printer.verdict_of diagnosis x) (room_verdict request))))
 
 -- each request was stored at the front of its buffer
-abbrev pub requestBuffer : List Sending → (buffer : List ℕ) → List ℕ
-requestBuffer [] u = u
-requestBuffer (s ∷ l) u = requestBuffer l (over s.request u)
+abbrev pub request_buffer : List Sending → (buffer : List ℕ) → List ℕ
+request_buffer [] u = u
+request_buffer (s ∷ l) u = request_buffer l (over s.request u)
 
 -- the answer, and what every lent byte is then
 pub record Whole : Type 0 where
@@ -105,23 +105,23 @@ leaving a lengths bodies reply request =
     record { answer = a; slots = record { lengths = lengths; bodies = bodies }; reply = reply; request = request }
 
 -- how it ended. That it does is proved (Theorem): the second case never is.
-abbrev pub endedBy : Move → (sent : ℕ) → Printer → Downloaded
-endedBy (stop e) sent p = downloaded.Ended e sent p
-endedBy (go q o) sent p = downloaded.Refused 12
+abbrev pub ended_by : Move → (sent : ℕ) → Printer → Downloaded
+ended_by (stop e) sent p = downloaded.Ended e sent p
+ended_by (go q o) sent p = downloaded.Refused 12
 
-abbrev pub wholeBy : Config → List Sending → (request : List ℕ) → Whole
-wholeBy z sent request =
+abbrev pub whole_by : Config → List Sending → (request : List ℕ) → Whole
+whole_by z sent request =
     record {
-      answer = endedBy z.move z.sent z.printer.printer;
+      answer = ended_by z.move z.sent z.printer.printer;
       slots = z.printer.slots;
       reply = z.printer.buffer;
-      request = requestBuffer sent request;
+      request = request_buffer sent request;
     }
 
-abbrev pub downloadBy : Verdict → Given → List Passage → Station → (request : List ℕ) → Whole
-downloadBy fine g l x request = wholeBy (download g l x) (sendings g l x (bound g)) request
-downloadBy (fault k) g l x request = record { answer = downloaded.Refused k; slots = x.slots; reply = x.buffer; request = request }
+abbrev pub download_by : Verdict → Given → List Passage → Station → (request : List ℕ) → Whole
+download_by fine g l x request = whole_by (download g l x) (sendings g l x (bound g)) request
+download_by (fault k) g l x request = record { answer = downloaded.Refused k; slots = x.slots; reply = x.buffer; request = request }
 
-unfoldable pub downloadOf : Settings → (book line notYet diagnosis : List ℕ) → Station → (request : List ℕ) → Whole
-downloadOf c book l notYet diagnosis x request =
-    downloadBy (verdictOf c book l diagnosis x request) (given c book notYet diagnosis) (passagesOf l) x request
+unfoldable pub download_of : Settings → (book line not_yet diagnosis : List ℕ) → Station → (request : List ℕ) → Whole
+download_of c book l not_yet diagnosis x request =
+    download_by (verdict_of c book l diagnosis x request) (given c book not_yet diagnosis) (passages_of l) x request

@@ -6,10 +6,10 @@ use Rattle.std.specs.Prelude.{ℕ, zero, suc, List, [], ◌∷◌}
 -- What the line does with one sending. In place of a request or of a reply it may also bring other bytes.
 pub data Passage : Type 0 where
   through : Passage
-  requestLost : Passage
-  replyLost : Passage
-  requestDamaged : (bytes : List ℕ) → Passage
-  replyDamaged : (bytes : List ℕ) → Passage
+  request_lost : Passage
+  reply_lost : Passage
+  request_damaged : (bytes : List ℕ) → Passage
+  reply_damaged : (bytes : List ℕ) → Passage
 
 -- the printer's end after it heard a request, and its reply
 pub record Answered (P : Type 0) : Type 0 where
@@ -35,9 +35,9 @@ pub record Sending : Type 0 where
   pub reply : List ℕ
 
 -- one sending takes one entry of the line; a missing one goes through
-abbrev pub passageOf : List Passage → Passage
-passageOf [] = through
-passageOf (h ∷ l) = h
+abbrev pub passage_of : List Passage → Passage
+passage_of [] = through
+passage_of (h ∷ l) = h
 
 abbrev pub rest_of : List Passage → List Passage
 rest_of [] = []
@@ -45,33 +45,33 @@ rest_of (h ∷ l) = l
 
 module _ {P O E : Type 0} (hear : P → List ℕ → Answered P) (step : O → (reply : List ℕ) → Move O E) where
   -- the printer after a sending of q, and the reply as it comes back
-  abbrev pub printerAfter : Passage → P → (q : List ℕ) → P
-  printerAfter through p q = (hear p q).state
-  printerAfter requestLost p q = p
-  printerAfter replyLost p q = (hear p q).state
-  printerAfter (requestDamaged bytes) p q = (hear p bytes).state
-  printerAfter (replyDamaged bytes) p q = (hear p q).state
+  abbrev pub printer_after : Passage → P → (q : List ℕ) → P
+  printer_after through p q = (hear p q).state
+  printer_after request_lost p q = p
+  printer_after reply_lost p q = (hear p q).state
+  printer_after (request_damaged bytes) p q = (hear p bytes).state
+  printer_after (reply_damaged bytes) p q = (hear p q).state
 
-  abbrev pub replyAfter : Passage → P → (q : List ℕ) → List ℕ
-  replyAfter through p q = (hear p q).reply
-  replyAfter requestLost p q = []
-  replyAfter replyLost p q = []
-  replyAfter (requestDamaged bytes) p q = (hear p bytes).reply
-  replyAfter (replyDamaged bytes) p q = bytes
+  abbrev pub reply_after : Passage → P → (q : List ℕ) → List ℕ
+  reply_after through p q = (hear p q).reply
+  reply_after request_lost p q = []
+  reply_after reply_lost p q = []
+  reply_after (request_damaged bytes) p q = (hear p bytes).reply
+  reply_after (reply_damaged bytes) p q = bytes
 
   -- one sending; who has ended stays as it is
-  abbrev pub nextBy : List Passage → P → Move O E → (sent : ℕ) → Config P O E
-  nextBy l p (stop e) n = record { line = l; printer = p; move = stop e; sent = n }
-  nextBy l p (go q o) n =
+  abbrev pub next_by : List Passage → P → Move O E → (sent : ℕ) → Config P O E
+  next_by l p (stop e) n = record { line = l; printer = p; move = stop e; sent = n }
+  next_by l p (go q o) n =
       record {
         line = rest_of l;
-        printer = printerAfter (passageOf l) p q;
-        move = step o (replyAfter (passageOf l) p q);
+        printer = printer_after (passage_of l) p q;
+        move = step o (reply_after (passage_of l) p q);
         sent = suc n;
       }
 
   abbrev pub next : Config P O E → Config P O E
-  next x = nextBy x.line x.printer x.move x.sent
+  next x = next_by x.line x.printer x.move x.sent
 
   -- m sendings
   unfoldable pub run : ℕ → Config P O E → Config P O E
@@ -79,36 +79,36 @@ module _ {P O E : Type 0} (hear : P → List ℕ → Answered P) (step : O → (
   run (suc m) x = run m (next x)
 
   -- and what was sent, in order
-  abbrev pub sendingBy : List Passage → P → Move O E → List Sending → List Sending
-  sendingBy l p (stop e) rest = []
-  sendingBy l p (go q o) rest = record { request = q; passage = passageOf l; reply = replyAfter (passageOf l) p q } ∷ rest
+  abbrev pub sending_by : List Passage → P → Move O E → List Sending → List Sending
+  sending_by l p (stop e) rest = []
+  sending_by l p (go q o) rest = record { request = q; passage = passage_of l; reply = reply_after (passage_of l) p q } ∷ rest
 
   unfoldable pub transcript : ℕ → Config P O E → List Sending
   transcript zero x = []
-  transcript (suc m) x = sendingBy x.line x.printer x.move (transcript m (next x))
+  transcript (suc m) x = sending_by x.line x.printer x.move (transcript m (next x))
 
 -- ---- damage: the line brings other bytes only such as Bad says
 
 module _ (Bad : List ℕ → Type 0) where
   abbrev pub DamagedBy : Passage → Type 0
   DamagedBy through = Unit {0}
-  DamagedBy requestLost = Unit {0}
-  DamagedBy replyLost = Unit {0}
-  DamagedBy (requestDamaged bytes) = Bad bytes
-  DamagedBy (replyDamaged bytes) = Bad bytes
+  DamagedBy request_lost = Unit {0}
+  DamagedBy reply_lost = Unit {0}
+  DamagedBy (request_damaged bytes) = Bad bytes
+  DamagedBy (reply_damaged bytes) = Bad bytes
 
   abbrev pub Damage : List Passage → Type 0
   Damage [] = Unit {0}
   Damage (h ∷ l) = DamagedBy h × Damage l
 
 -- a line that loses what another damages
-abbrev pub lostFor : Passage → Passage
-lostFor through = through
-lostFor requestLost = requestLost
-lostFor replyLost = replyLost
-lostFor (requestDamaged bytes) = requestLost
-lostFor (replyDamaged bytes) = replyLost
+abbrev pub lost_for : Passage → Passage
+lost_for through = through
+lost_for request_lost = request_lost
+lost_for reply_lost = reply_lost
+lost_for (request_damaged bytes) = request_lost
+lost_for (reply_damaged bytes) = reply_lost
 
-abbrev pub asLost : List Passage → List Passage
-asLost [] = []
-asLost (h ∷ l) = lostFor h ∷ asLost l
+abbrev pub as_lost : List Passage → List Passage
+as_lost [] = []
+as_lost (h ∷ l) = lost_for h ∷ as_lost l

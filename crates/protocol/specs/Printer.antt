@@ -5,7 +5,7 @@ use Rattle.octets.specs.Choice.{pick, ◌and◌, ◌or◌}
 use Rattle.octets.specs.Front.{Verdict, fine, fault, over}
 use Rattle.octets.specs.Part.{part_of}
 use Rattle.octets.specs.declared.Mode.TheVariants as mode
-use Rattle.function_code.specs.Code.{classOf}
+use Rattle.function_code.specs.Code.{class_of}
 use Rattle.fdl.specs.Reading as telegram
 use Rattle.function_code.specs.declared.code.Class.{Class}
 use Rattle.function_code.specs.declared.code.Class.TheVariants as class
@@ -22,10 +22,10 @@ use Rattle.content.specs.declared.fields.Content.TheVariants as content
 use Rattle.service.specs.Reading as service
 use Rattle.service.specs.declared.reading.Reading as service-type
 use Rattle.service.specs.declared.reading.Reading.TheVariants as service-reading
-use Rattle.protocol.specs.Bits.{sameBit}
-use Rattle.protocol.specs.Slots.{Slots, written, tooLong}
-use Rattle.protocol.specs.Telegrams.{bareBytes, diagnosisBytes, outcomeBytes}
-use Rattle.fdl.specs.Writing.{confirmationBytes}
+use Rattle.protocol.specs.Bits.{bits_agree}
+use Rattle.protocol.specs.Slots.{Slots, written, too_long}
+use Rattle.protocol.specs.Telegrams.{bare_bytes, diagnosis_bytes, outcome_bytes}
+use Rattle.fdl.specs.Writing.{confirmation_bytes}
 use Rattle.protocol.specs.declared.printer.Outcome.{Outcome}
 use Rattle.protocol.specs.declared.printer.Outcome.TheVariants as outcome
 use Rattle.protocol.specs.declared.printer.Pending.{Pending}
@@ -38,7 +38,7 @@ use Rattle.protocol.specs.declared.printer.Reaction.TheVariants as reaction
 
 -- what an opening or a counted call asks for
 pub data Ask : Type 0 where
-  slaveDiag : Ask
+  slave_diag : Ask
   write : (slot index : ℕ) (body : List ℕ) → Ask
   poll : Ask
   -- not SRD, refused with 10, or any other service or DPV1 function
@@ -57,79 +57,79 @@ pub data Received : Type 0 where
   opening : (sa : ℕ) → Ask → Received
   counted : (fcb : Bool) (sa : ℕ) → Ask → Received
 
-abbrev pub askOfDpv1 : Call → (part : List ℕ) → Ask
-askOfDpv1 call.Poll part = poll
-askOfDpv1 (call.Read slot index len) part = unknown
-askOfDpv1 (call.Write slot index) part = write slot index part
-askOfDpv1 (call.AlarmAck slot alarm specifier) part = unknown
-askOfDpv1 call.Idle part = unknown
-askOfDpv1 (call.Transport slot index) part = unknown
+abbrev pub ask_of_dpv1 : Call → (part : List ℕ) → Ask
+ask_of_dpv1 call.Poll part = poll
+ask_of_dpv1 (call.Read slot index len) part = unknown
+ask_of_dpv1 (call.Write slot index) part = write slot index part
+ask_of_dpv1 (call.AlarmAck slot alarm specifier) part = unknown
+ask_of_dpv1 call.Idle part = unknown
+ask_of_dpv1 (call.Transport slot index) part = unknown
 
-abbrev pub askOf : Content → (part : List ℕ) → Ask
-askOf content.DataExchange part = unknown
-askOf (content.Dpv1Call c) part = askOfDpv1 c part
-askOf (content.Dpv1Answer x) part = unknown
-askOf content.ExtUserPrm part = unknown
-askOf (content.SetSlaveAdr f) part = unknown
-askOf content.RdInp part = unknown
-askOf content.RdOutp part = unknown
-askOf (content.GlobalControl f) part = unknown
-askOf content.GetCfg part = unknown
-askOf content.SlaveDiagCall part = slaveDiag
-askOf (content.SlaveDiag h) part = unknown
-askOf (content.SetPrm f) part = unknown
-askOf content.ChkCfg part = unknown
+abbrev pub ask_of : Content → (part : List ℕ) → Ask
+ask_of content.DataExchange part = unknown
+ask_of (content.Dpv1Call c) part = ask_of_dpv1 c part
+ask_of (content.Dpv1Answer x) part = unknown
+ask_of content.ExtUserPrm part = unknown
+ask_of (content.SetSlaveAdr f) part = unknown
+ask_of content.RdInp part = unknown
+ask_of content.RdOutp part = unknown
+ask_of (content.GlobalControl f) part = unknown
+ask_of content.GetCfg part = unknown
+ask_of content.SlaveDiagCall part = slave_diag
+ask_of (content.SlaveDiag h) part = unknown
+ask_of (content.SetPrm f) part = unknown
+ask_of content.ChkCfg part = unknown
 
 -- by the service reader; 10 is apart from its other refusals
-abbrev pub askBy : List ℕ → service-type.Reading → Ask
-askBy s (service-reading.Service f h w c start len) = askOf c (part_of s start len)
-askBy s (service-reading.Refused r) = pick (eqb r.number 10) unknown undecodable
+abbrev pub ask_by : List ℕ → service-type.Reading → Ask
+ask_by s (service-reading.Service f h w c start len) = ask_of c (part_of s start len)
+ask_by s (service-reading.Refused r) = pick (eqb r.number 10) unknown undecodable
 
 -- send and request data (SRD), low or high
-abbrev pub isSrd : (fc : ℕ) → Bool
-isSrd fc = eqb (fc % 16) 12 or eqb (fc % 16) 13
+abbrev pub is_srd : (fc : ℕ) → Bool
+is_srd fc = eqb (fc % 16) 12 or eqb (fc % 16) 13
 
 -- the printer reads parameters as DPV1
-unfoldable pub askIn : List ℕ → (fc : ℕ) → Ask
-askIn s fc = pick (isSrd fc) (askBy s (service.read_of s mode.Dpv1)) unknown
+unfoldable pub ask_in : List ℕ → (fc : ℕ) → Ask
+ask_in s fc = pick (is_srd fc) (ask_by s (service.read_of s mode.Dpv1)) unknown
 
 -- FCB is bit 5
-abbrev pub fcbOf : (fc : ℕ) → Bool
-fcbOf fc = eqb (fc / 32 % 2) 1
+abbrev pub fcb_of : (fc : ℕ) → Bool
+fcb_of fc = eqb (fc / 32 % 2) 1
 
 -- a call to this printer, by its class; FDL status is function 9
-abbrev pub calledBy : Class → List ℕ → Header → Received
-calledBy class.Opening s h = opening h.sa (askIn s h.fc)
-calledBy class.Counted s h = counted (fcbOf h.fc) h.sa (askIn s h.fc)
-calledBy class.Uncounted s h = pick (eqb (h.fc % 16) 9) (status h.sa) uncounted
-calledBy class.Bare s h = nothing
-calledBy class.Data s h = nothing
-calledBy class.Reserved s h = nothing
+abbrev pub called_by : Class → List ℕ → Header → Received
+called_by class.Opening s h = opening h.sa (ask_in s h.fc)
+called_by class.Counted s h = counted (fcb_of h.fc) h.sa (ask_in s h.fc)
+called_by class.Uncounted s h = pick (eqb (h.fc % 16) 9) (status h.sa) uncounted
+called_by class.Bare s h = nothing
+called_by class.Data s h = nothing
+called_by class.Reserved s h = nothing
 
-abbrev pub isCall : Class → Bool
-isCall class.Opening = true
-isCall class.Counted = true
-isCall class.Uncounted = true
-isCall class.Bare = false
-isCall class.Data = false
-isCall class.Reserved = false
+abbrev pub is_call : Class → Bool
+is_call class.Opening = true
+is_call class.Counted = true
+is_call class.Uncounted = true
+is_call class.Bare = false
+is_call class.Data = false
+is_call class.Reserved = false
 
 -- what was read is a call
-abbrev pub isCallOf : telegram-type.Reading → Bool
-isCallOf telegram-reading.Confirmation = false
-isCallOf (telegram-reading.Token da sa) = false
-isCallOf (telegram-reading.Telegram f h start len) = isCall (classOf h.fc)
-isCallOf (telegram-reading.Refused r) = false
+abbrev pub is_call_of : telegram-type.Reading → Bool
+is_call_of telegram-reading.Confirmation = false
+is_call_of (telegram-reading.Token da sa) = false
+is_call_of (telegram-reading.Telegram f h start len) = is_call (class_of h.fc)
+is_call_of (telegram-reading.Refused r) = false
 
-abbrev pub receivedBy : (address : ℕ) → List ℕ → telegram-type.Reading → Received
-receivedBy address s telegram-reading.Confirmation = nothing
-receivedBy address s (telegram-reading.Token da sa) = nothing
-receivedBy address s (telegram-reading.Telegram f h start len) =
-    pick (isCall (classOf h.fc)) (pick (eqb h.da address) (calledBy (classOf h.fc) s h) elsewhere) nothing
-receivedBy address s (telegram-reading.Refused r) = nothing
+abbrev pub received_by : (address : ℕ) → List ℕ → telegram-type.Reading → Received
+received_by address s telegram-reading.Confirmation = nothing
+received_by address s (telegram-reading.Token da sa) = nothing
+received_by address s (telegram-reading.Telegram f h start len) =
+    pick (is_call (class_of h.fc)) (pick (eqb h.da address) (called_by (class_of h.fc) s h) elsewhere) nothing
+received_by address s (telegram-reading.Refused r) = nothing
 
-unfoldable pub receivedOf : (address : ℕ) → List ℕ → Received
-receivedOf address s = receivedBy address s (telegram.read_of s)
+unfoldable pub received_of : (address : ℕ) → List ℕ → Received
+received_of address s = received_by address s (telegram.read_of s)
 
 -- ---- what it does
 
@@ -156,9 +156,9 @@ judge boarding slot index len =
     (pick (guarded boarding index) (negative 0xB6) (outcome.Positive slot index len))))
 
 -- the slots after a write with this result
-abbrev pub slotsAfter : Outcome → (index : ℕ) → (body : List ℕ) → Slots → Slots
-slotsAfter (outcome.Positive slot i len) index body s = written index body s
-slotsAfter (outcome.Negative code1 code2) index body s = s
+abbrev pub slots_after : Outcome → (index : ℕ) → (body : List ℕ) → Slots → Slots
+slots_after (outcome.Positive slot i len) index body s = written index body s
+slots_after (outcome.Negative code1 code2) index body s = s
 
 -- what a new call does
 pub record Deed : Type 0 where
@@ -171,38 +171,38 @@ abbrev pub only : Pending → Slots → (writes : ℕ) → Reply → Deed
 only p s n r = record { pending = p; slots = s; writes = n; reply = r }
 
 -- a write is performed at once where no result is pending, and counted, the count staying at 255
-abbrev pub writeDeed : (boarding : Bool) (notYet : ℕ) → Pending → Slots → (writes : ℕ) → (slot index : ℕ) (body : List ℕ) → Deed
-writeDeed boarding notYet pending.Nothing s n slot index body =
+abbrev pub write_deed : (boarding : Bool) (not_yet : ℕ) → Pending → Slots → (writes : ℕ) → (slot index : ℕ) (body : List ℕ) → Deed
+write_deed boarding not_yet pending.Nothing s n slot index body =
     record {
-      pending = pending.Result (judge boarding slot index (length body)) notYet;
-      slots = slotsAfter (judge boarding slot index (length body)) index body s;
+      pending = pending.Result (judge boarding slot index (length body)) not_yet;
+      slots = slots_after (judge boarding slot index (length body)) index body s;
       writes = min 255 (suc n);
       reply = confirmation;
     }
-writeDeed boarding notYet (pending.Result o wait) s n slot index body = only (pending.Result o wait) s n (bare 2)
+write_deed boarding not_yet (pending.Result o wait) s n slot index body = only (pending.Result o wait) s n (bare 2)
 
 -- a poll gets SC while none is pending or the number of "not yet" is not used up, then the result
 abbrev pub waited : Outcome → (wait : ℕ) → Slots → (writes : ℕ) → Deed
 waited o zero s n = only pending.Nothing s n (result o)
 waited o (suc wait) s n = only (pending.Result o wait) s n confirmation
 
-abbrev pub pollDeed : Pending → Slots → (writes : ℕ) → Deed
-pollDeed pending.Nothing s n = only pending.Nothing s n confirmation
-pollDeed (pending.Result o wait) s n = waited o wait s n
+abbrev pub poll_deed : Pending → Slots → (writes : ℕ) → Deed
+poll_deed pending.Nothing s n = only pending.Nothing s n confirmation
+poll_deed (pending.Result o wait) s n = waited o wait s n
 
-abbrev pub perform : (boarding : Bool) (notYet : ℕ) → Pending → Slots → (writes : ℕ) → Ask → Deed
-perform boarding notYet p s n slaveDiag = only p s n diagnosis
-perform boarding notYet p s n (write slot index body) = writeDeed boarding notYet p s n slot index body
-perform boarding notYet p s n poll = pollDeed p s n
-perform boarding notYet p s n unknown = only p s n (bare 3)
-perform boarding notYet p s n undecodable = only p s n (bare 1)
+abbrev pub perform : (boarding : Bool) (not_yet : ℕ) → Pending → Slots → (writes : ℕ) → Ask → Deed
+perform boarding not_yet p s n slave_diag = only p s n diagnosis
+perform boarding not_yet p s n (write slot index body) = write_deed boarding not_yet p s n slot index body
+perform boarding not_yet p s n poll = poll_deed p s n
+perform boarding not_yet p s n unknown = only p s n (bare 3)
+perform boarding not_yet p s n undecodable = only p s n (bare 1)
 
-abbrev pub openingReply : Ask → Reply
-openingReply slaveDiag = diagnosis
-openingReply (write slot index body) = bare 3
-openingReply poll = bare 3
-openingReply unknown = bare 3
-openingReply undecodable = bare 1
+abbrev pub opening_reply : Ask → Reply
+opening_reply slave_diag = diagnosis
+opening_reply (write slot index body) = bare 3
+opening_reply poll = bare 3
+opening_reply unknown = bare 3
+opening_reply undecodable = bare 1
 
 -- ---- the step
 
@@ -221,8 +221,8 @@ pub record Heard : Type 0 where
   pub station : Station
   pub reply : ℕ
 
-abbrev pub dropHeld : Printer → Printer
-dropHeld p =
+abbrev pub drop_held : Printer → Printer
+drop_held p =
     record {
       address = p.address;
       boarding = p.boarding;
@@ -260,15 +260,15 @@ renewed p fcb sa held d =
     }
 
 -- is a counted call the last one again
-abbrev pub isRepeat : Printer → (fcb : Bool) (sa : ℕ) → Bool
-isRepeat p fcb sa = eqb sa p.sa and sameBit fcb p.fcb
+abbrev pub is_repeat : Printer → (fcb : Bool) (sa : ℕ) → Bool
+is_repeat p fcb sa = eqb sa p.sa and bits_agree fcb p.fcb
 
 -- the bytes of a new reply to the station `to`
-abbrev pub replyBytes : (diag : List ℕ) (address to : ℕ) → Reply → List ℕ
-replyBytes diag address to confirmation = confirmationBytes
-replyBytes diag address to (bare function) = bareBytes to address function
-replyBytes diag address to diagnosis = diagnosisBytes to address diag
-replyBytes diag address to (result o) = outcomeBytes to address o
+abbrev pub reply_bytes : (diag : List ℕ) (address to : ℕ) → Reply → List ℕ
+reply_bytes diag address to confirmation = confirmation_bytes
+reply_bytes diag address to (bare function) = bare_bytes to address function
+reply_bytes diag address to diagnosis = diagnosis_bytes to address diag
+reply_bytes diag address to (result o) = outcome_bytes to address o
 
 abbrev pub quiet : Printer → Slots → (buffer : List ℕ) → Heard
 quiet p s buffer = record { station = record { printer = p; slots = s; buffer = buffer }; reply = 0 }
@@ -277,25 +277,25 @@ quiet p s buffer = record { station = record { printer = p; slots = s; buffer = 
 abbrev pub saying : Printer → Slots → (buffer bytes : List ℕ) → Heard
 saying p s buffer bytes = record { station = record { printer = p; slots = s; buffer = over bytes buffer }; reply = length bytes }
 
-abbrev pub newCall : (diag : List ℕ) → Station → (fcb : Bool) (sa : ℕ) → Deed → Heard
-newCall diag x fcb sa d =
-    saying (renewed x.printer fcb sa (length (replyBytes diag x.printer.address sa d.reply)) d) d.slots x.buffer
-    (replyBytes diag x.printer.address sa d.reply)
+abbrev pub new_call : (diag : List ℕ) → Station → (fcb : Bool) (sa : ℕ) → Deed → Heard
+new_call diag x fcb sa d =
+    saying (renewed x.printer fcb sa (length (reply_bytes diag x.printer.address sa d.reply)) d) d.slots x.buffer
+    (reply_bytes diag x.printer.address sa d.reply)
 
-abbrev pub heardBy : (diag : List ℕ) (notYet : ℕ) → Received → Station → Heard
-heardBy diag notYet nothing x = record { station = x; reply = 0 }
-heardBy diag notYet elsewhere x = quiet (dropHeld x.printer) x.slots x.buffer
-heardBy diag notYet uncounted x = quiet (dropHeld x.printer) x.slots x.buffer
-heardBy diag notYet (status sa) x =
-    saying (dropHeld x.printer) x.slots x.buffer (bareBytes sa x.printer.address 0)
-heardBy diag notYet (opening sa ask) x =
-    saying (opened x.printer sa) x.slots x.buffer (replyBytes diag x.printer.address sa (openingReply ask))
-heardBy diag notYet (counted fcb sa ask) x =
-    pick (isRepeat x.printer fcb sa) (record { station = x; reply = x.printer.held })
-    (newCall diag x fcb sa (perform x.printer.boarding notYet x.printer.pending x.slots x.printer.writes ask))
+abbrev pub heard_by : (diag : List ℕ) (not_yet : ℕ) → Received → Station → Heard
+heard_by diag not_yet nothing x = record { station = x; reply = 0 }
+heard_by diag not_yet elsewhere x = quiet (drop_held x.printer) x.slots x.buffer
+heard_by diag not_yet uncounted x = quiet (drop_held x.printer) x.slots x.buffer
+heard_by diag not_yet (status sa) x =
+    saying (drop_held x.printer) x.slots x.buffer (bare_bytes sa x.printer.address 0)
+heard_by diag not_yet (opening sa ask) x =
+    saying (opened x.printer sa) x.slots x.buffer (reply_bytes diag x.printer.address sa (opening_reply ask))
+heard_by diag not_yet (counted fcb sa ask) x =
+    pick (is_repeat x.printer fcb sa) (record { station = x; reply = x.printer.held })
+    (new_call diag x fcb sa (perform x.printer.boarding not_yet x.printer.pending x.slots x.printer.writes ask))
 
-unfoldable pub hear : (diag : List ℕ) (notYet : ℕ) → (telegram : List ℕ) → Station → Heard
-hear diag notYet s x = heardBy diag notYet (receivedOf x.printer.address s) x
+unfoldable pub hear : (diag : List ℕ) (not_yet : ℕ) → (telegram : List ℕ) → Station → Heard
+hear diag not_yet s x = heard_by diag not_yet (received_of x.printer.address s) x
 
 -- ---- what is refused, before any change
 
@@ -303,10 +303,10 @@ abbrev pub is_refused : diagnosis-type.Reading → Bool
 is_refused (diagnosis-reading.Diagnosis h blocks) = false
 is_refused (diagnosis-reading.Refused r) = true
 
-unfoldable pub verdictOf : (diag : List ℕ) → Station → Verdict
-verdictOf diag x =
+unfoldable pub verdict_of : (diag : List ℕ) → Station → Verdict
+verdict_of diag x =
     pick (ltb 126 x.printer.address) (fault 12)
-    (pick (tooLong x.slots.lengths) (fault 12)
+    (pick (too_long x.slots.lengths) (fault 12)
     (pick (is_refused (diagnosis-format.read_of diag)) (fault 12)
     (pick (ltb (length x.buffer) 255) (fault 11) fine)))
 
@@ -327,9 +327,9 @@ stepped h =
       buffer = h.station.buffer;
     }
 
-abbrev pub stepBy : Verdict → (diag : List ℕ) (notYet : ℕ) → (telegram : List ℕ) → Station → Stepped
-stepBy fine diag notYet s x = stepped (hear diag notYet s x)
-stepBy (fault k) diag notYet s x = record { answer = reaction.Refused k; slots = x.slots; buffer = x.buffer }
+abbrev pub step_by : Verdict → (diag : List ℕ) (not_yet : ℕ) → (telegram : List ℕ) → Station → Stepped
+step_by fine diag not_yet s x = stepped (hear diag not_yet s x)
+step_by (fault k) diag not_yet s x = record { answer = reaction.Refused k; slots = x.slots; buffer = x.buffer }
 
-unfoldable pub step_of : (diag : List ℕ) (notYet : ℕ) → (telegram : List ℕ) → Station → Stepped
-step_of diag notYet s x = stepBy (verdictOf diag x) diag notYet s x
+unfoldable pub step_of : (diag : List ℕ) (not_yet : ℕ) → (telegram : List ℕ) → Station → Stepped
+step_of diag not_yet s x = step_by (verdict_of diag x) diag not_yet s x

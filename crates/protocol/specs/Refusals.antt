@@ -2,15 +2,15 @@
 use Rattle.std.specs.Prelude.{ℕ, ◌≡◌, refl, true, List, [], ◌∷◌}
 use Rattle.octets.specs.Choice.{through, alike}
 use Rattle.octets.specs.Front.{Verdict, fine, fault}
-use Rattle.octets.specs.Refusals.{listed, numbered, both-numbered}
-use Rattle.book.specs.Refusals.{reading-numbered}
+use Rattle.octets.specs.Refusals.{listed, numbered, both_numbered}
+use Rattle.book.specs.Refusals.{reading_numbered}
 use Rattle.protocol.specs.Line.{Passage, go, stop}
 use Rattle.protocol.specs.Printer as printer
 use Rattle.protocol.specs.Printer.{Station}
 use Rattle.protocol.specs.Controller as controller-end
-use Rattle.protocol.specs.Controller.{Move, Acted, settingsVerdict, stateVerdict}
+use Rattle.protocol.specs.Controller.{Move, Acted, settings_verdict, state_verdict}
 use Rattle.protocol.specs.Download as joined
-use Rattle.protocol.specs.Download.{Given, download, lineVerdict, endedBy}
+use Rattle.protocol.specs.Download.{Given, download, line_verdict, ended_by}
 use Rattle.protocol.specs.declared.printer.Printer.{Printer}
 use Rattle.protocol.specs.declared.printer.Reaction.{Reaction}
 use Rattle.protocol.specs.declared.printer.Reaction.TheVariants as reaction
@@ -23,87 +23,87 @@ use Rattle.protocol.specs.declared.download.Downloaded.{Downloaded}
 use Rattle.protocol.specs.declared.download.Downloaded.TheVariants as downloaded
 
 -- the verdict that a step came to, and a download
-abbrev pub reactionVerdict : Reaction → Verdict
-reactionVerdict (reaction.Heard p n) = fine
-reactionVerdict (reaction.Refused k) = fault k
+abbrev pub reaction_verdict : Reaction → Verdict
+reaction_verdict (reaction.Heard p n) = fine
+reaction_verdict (reaction.Refused k) = fault k
 
-abbrev pub actionVerdict : Action → Verdict
-actionVerdict (action.Send o n) = fine
-actionVerdict (action.End e) = fine
-actionVerdict (action.Refused k) = fault k
+abbrev pub action_verdict : Action → Verdict
+action_verdict (action.Send o n) = fine
+action_verdict (action.End e) = fine
+action_verdict (action.Refused k) = fault k
 
-abbrev pub downloadedVerdict : Downloaded → Verdict
-downloadedVerdict (downloaded.Ended e n p) = fine
-downloadedVerdict (downloaded.Refused k) = fault k
+abbrev pub downloaded_verdict : Downloaded → Verdict
+downloaded_verdict (downloaded.Ended e n p) = fine
+downloaded_verdict (downloaded.Refused k) = fault k
 
 -- ---- the printer
 
-printer-numbered : (diag : List ℕ) (x : Station) → numbered (printer.verdictOf diag x) ≡ true
-unfolding printer.verdictOf listed
-printer-numbered diag x = simp (through numbered, alike)
+printer_numbered : (diag : List ℕ) (x : Station) → numbered (printer.verdict_of diag x) ≡ true
+unfolding printer.verdict_of listed
+printer_numbered diag x = simp (through numbered, alike)
 
-reaction-by : (v : Verdict) (diag : List ℕ) (notYet : ℕ) (s : List ℕ) (x : Station) → numbered v ≡ true
-    → numbered (reactionVerdict (printer.stepBy v diag notYet s x).answer) ≡ true
-reaction-by fine diag notYet s x h = refl
-reaction-by (fault k) diag notYet s x h = h
+reaction_by : (v : Verdict) (diag : List ℕ) (not_yet : ℕ) (s : List ℕ) (x : Station) → numbered v ≡ true
+    → numbered (reaction_verdict (printer.step_by v diag not_yet s x).answer) ≡ true
+reaction_by fine diag not_yet s x h = refl
+reaction_by (fault k) diag not_yet s x h = h
 
-pub reaction-numbered : (diag : List ℕ) (notYet : ℕ) (s : List ℕ) (x : Station) → numbered (reactionVerdict (printer.step_of diag notYet s x).answer) ≡ true
+pub reaction_numbered : (diag : List ℕ) (not_yet : ℕ) (s : List ℕ) (x : Station) → numbered (reaction_verdict (printer.step_of diag not_yet s x).answer) ≡ true
 unfolding printer.step_of
-reaction-numbered diag notYet s x = reaction-by (printer.verdictOf diag x) diag notYet s x (printer-numbered diag x)
+reaction_numbered diag not_yet s x = reaction_by (printer.verdict_of diag x) diag not_yet s x (printer_numbered diag x)
 
 -- ---- the controller
 
-settings-numbered : (c : Settings) → numbered (settingsVerdict c) ≡ true
-unfolding settingsVerdict listed
-settings-numbered c = simp (through numbered, alike)
+settings_numbered : (c : Settings) → numbered (settings_verdict c) ≡ true
+unfolding settings_verdict listed
+settings_numbered c = simp (through numbered, alike)
 
-state-numbered : (c : Settings) (n : ℕ) (o : Controller) → numbered (stateVerdict c n o) ≡ true
-unfolding stateVerdict listed
-state-numbered c n controller.Fresh = refl
-state-numbered c n controller.Opening = refl
-state-numbered c n (controller.Asking k j fcb repeats) = simp (through numbered, alike)
+state_numbered : (c : Settings) (n : ℕ) (o : Controller) → numbered (state_verdict c n o) ≡ true
+unfolding state_verdict listed
+state_numbered c n controller.Fresh = refl
+state_numbered c n controller.Opening = refl
+state_numbered c n (controller.Asking k j fcb repeats) = simp (through numbered, alike)
 
-acted-numbered : (m : Move) (buffer : List ℕ) → numbered (actionVerdict (controller-end.acted m buffer).answer) ≡ true
+acted_numbered : (m : Move) (buffer : List ℕ) → numbered (action_verdict (controller-end.acted m buffer).answer) ≡ true
 unfolding listed
-acted-numbered (go request o) buffer = simp (through (λ (a : Acted). a.answer), through actionVerdict, through numbered, alike)
-acted-numbered (stop e) buffer = refl
+acted_numbered (go request o) buffer = simp (through (λ (a : Acted). a.answer), through action_verdict, through numbered, alike)
+acted_numbered (stop e) buffer = refl
 
-action-by : (v : Verdict) (m : Move) (buffer : List ℕ) → numbered v ≡ true
-    → numbered (actionVerdict (controller-end.stepBy v m buffer).answer) ≡ true
-action-by fine m buffer h = acted-numbered m buffer
-action-by (fault k) m buffer h = h
+action_by : (v : Verdict) (m : Move) (buffer : List ℕ) → numbered v ≡ true
+    → numbered (action_verdict (controller-end.step_by v m buffer).answer) ≡ true
+action_by fine m buffer h = acted_numbered m buffer
+action_by (fault k) m buffer h = h
 
-pub action-numbered : (c : Settings) (book : List ℕ) (o : Controller) (reply buffer : List ℕ)
-    → numbered (actionVerdict (controller-end.step_of c book o reply buffer).answer) ≡ true
-unfolding controller-end.step_of controller-end.verdictOf
-action-numbered c book o reply buffer =
-    action-by (controller-end.verdictOf c book o) _ buffer (simp (both-numbered, alike, settings-numbered, reading-numbered, state-numbered))
+pub action_numbered : (c : Settings) (book : List ℕ) (o : Controller) (reply buffer : List ℕ)
+    → numbered (action_verdict (controller-end.step_of c book o reply buffer).answer) ≡ true
+unfolding controller-end.step_of controller-end.verdict_of
+action_numbered c book o reply buffer =
+    action_by (controller-end.verdict_of c book o) _ buffer (simp (both_numbered, alike, settings_numbered, reading_numbered, state_numbered))
 
 -- ---- the download
 
-line-numbered : (l : List ℕ) → numbered (lineVerdict l) ≡ true
-unfolding lineVerdict listed
-line-numbered [] = refl
-line-numbered (b ∷ l) = simp (through numbered, alike, line-numbered l)
+line_numbered : (l : List ℕ) → numbered (line_verdict l) ≡ true
+unfolding line_verdict listed
+line_numbered [] = refl
+line_numbered (b ∷ l) = simp (through numbered, alike, line_numbered l)
 
-ended-numbered : (m : Move) (sent : ℕ) (p : Printer) → numbered (downloadedVerdict (endedBy m sent p)) ≡ true
+ended_numbered : (m : Move) (sent : ℕ) (p : Printer) → numbered (downloaded_verdict (ended_by m sent p)) ≡ true
 unfolding listed
-ended-numbered (go request o) sent p = refl
-ended-numbered (stop e) sent p = refl
+ended_numbered (go request o) sent p = refl
+ended_numbered (stop e) sent p = refl
 
-download-by : (v : Verdict) (g : Given) (l : List Passage) (x : Station) (request : List ℕ) → numbered v ≡ true
-    → numbered (downloadedVerdict (joined.downloadBy v g l x request).answer) ≡ true
-download-by fine g l x request h = ended-numbered (download g l x).move _ _
-download-by (fault k) g l x request h = h
+download_by_lem : (v : Verdict) (g : Given) (l : List Passage) (x : Station) (request : List ℕ) → numbered v ≡ true
+    → numbered (downloaded_verdict (joined.download_by v g l x request).answer) ≡ true
+download_by_lem fine g l x request h = ended_numbered (download g l x).move _ _
+download_by_lem (fault k) g l x request h = h
 
-verdict-numbered : (c : Settings) (book l diagnosis : List ℕ) (x : Station) (request : List ℕ)
-    → numbered (joined.verdictOf c book l diagnosis x request) ≡ true
-unfolding joined.verdictOf listed
-verdict-numbered c book l diagnosis x request =
-    simp (both-numbered, settings-numbered, reading-numbered, line-numbered, printer-numbered, through numbered, alike)
+verdict_numbered : (c : Settings) (book l diagnosis : List ℕ) (x : Station) (request : List ℕ)
+    → numbered (joined.verdict_of c book l diagnosis x request) ≡ true
+unfolding joined.verdict_of listed
+verdict_numbered c book l diagnosis x request =
+    simp (both_numbered, settings_numbered, reading_numbered, line_numbered, printer_numbered, through numbered, alike)
 
-pub download-numbered : (c : Settings) (book line notYet diagnosis : List ℕ) (x : Station) (request : List ℕ)
-    → numbered (downloadedVerdict (joined.downloadOf c book line notYet diagnosis x request).answer) ≡ true
-unfolding joined.downloadOf
-download-numbered c book line notYet diagnosis x request =
-    download-by (joined.verdictOf c book line diagnosis x request) _ _ x request (verdict-numbered c book line diagnosis x request)
+pub download_numbered : (c : Settings) (book line not_yet diagnosis : List ℕ) (x : Station) (request : List ℕ)
+    → numbered (downloaded_verdict (joined.download_of c book line not_yet diagnosis x request).answer) ≡ true
+unfolding joined.download_of
+download_numbered c book line not_yet diagnosis x request =
+    download_by_lem (joined.verdict_of c book line diagnosis x request) _ _ x request (verdict_numbered c book line diagnosis x request)

@@ -7,8 +7,8 @@ use Rattle.fdl.specs.Reading as telegram
 use Rattle.fdl.specs.declared.reading.Reading.TheVariants.{Telegram}
 use Rattle.fdl.specs.declared.telegram.Format.TheVariants.{Sd2}
 use Rattle.fdl.specs.declared.telegram.Sap.TheVariants.{Present}
-use Rattle.access.specs.Route.{headerWith}
-use Rattle.acyclic.specs.Errors.{goodDecode, goodCode1}
+use Rattle.access.specs.Route.{header_with}
+use Rattle.acyclic.specs.Errors.{good_decode, good_code1}
 use Rattle.diagnosis.specs.Reading as diagnosis
 use Rattle.book.specs.Contents.{Entry}
 use Rattle.protocol.specs.Printer.{is_refused}
@@ -23,7 +23,7 @@ module _ (c : Settings) where
   pub record FromPrinter (dsap ssap : ℕ) (user s : List ℕ) : Type 0 where
     pub start : ℕ
     pub len : ℕ
-    pub framed : telegram.read_of s ≡ Telegram Sd2 (headerWith c.controller c.printer 0x08 (Present dsap) (Present ssap)) start len
+    pub framed : telegram.read_of s ≡ Telegram Sd2 (header_with c.controller c.printer 0x08 (Present dsap) (Present ssap)) start len
     pub bytes : part_of s start len ≡ user
 
   -- the printer's diagnosis: from Slave_Diag, 60, and not refused
@@ -41,21 +41,21 @@ module _ (c : Settings) where
   pub record Negative (code1 code2 : ℕ) (s : List ℕ) : Type 0 where
     pub decode : ℕ
     pub from : FromPrinter 51 51 (0xDF ∷ decode ∷ code1 ∷ code2 ∷ []) s
-    pub decoded : goodDecode decode ≡ true
-    pub known : goodCode1 decode code1 ≡ true
+    pub decoded : good_decode decode ≡ true
+    pub known : good_code1 decode code1 ≡ true
 
   -- any other that framing accepts
   pub record Another (s : List ℕ) : Type 0 where
     pub framed : accepted (telegram.read_of s) ≡ true
-    pub no-sc : Sc s → ⊥
-    pub no-diagnosis : Diagnosis s → ⊥
-    pub no-positive : {slot index len : ℕ} → Positive slot index len s → ⊥
-    pub no-negative : {code1 code2 : ℕ} → Negative code1 code2 s → ⊥
+    pub no_sc : Sc s → ⊥
+    pub no_diagnosis : Diagnosis s → ⊥
+    pub no_positive : {slot index len : ℕ} → Positive slot index len s → ⊥
+    pub no_negative : {code1 code2 : ℕ} → Negative code1 code2 s → ⊥
 
   -- strange to a request for template t: framing accepts it, and it is neither SC nor, to a poll, the printer's DF or its 5F with
   -- the write's slot, index and length
   pub record Strange (poll : Bool) (t : Entry) (s : List ℕ) : Type 0 where
     pub framed : accepted (telegram.read_of s) ≡ true
-    pub no-sc : Sc s → ⊥
-    pub no-refusal : poll ≡ true → {code1 code2 : ℕ} → Negative code1 code2 s → ⊥
+    pub no_sc : Sc s → ⊥
+    pub no_refusal : poll ≡ true → {code1 code2 : ℕ} → Negative code1 code2 s → ⊥
     pub no_result : poll ≡ true → Positive 1 t.slot (length t.body) s → ⊥

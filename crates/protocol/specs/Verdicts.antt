@@ -6,12 +6,12 @@ use Rattle.octets.specs.declared.Refusal.{Refusal}
 use Rattle.diagnosis.specs.Reading as diagnosis-format
 use Rattle.diagnosis.specs.declared.reading.Header.{Header}
 use Rattle.diagnosis.specs.declared.reading.Reading.TheVariants as diagnosis-reading
-use Rattle.book.specs.Contents.{templatesOf}
+use Rattle.book.specs.Contents.{templates_of}
 use Rattle.book.specs.Reading as book-format
 use Rattle.book.specs.declared.answers.Reading.TheVariants as book-reading
-use Rattle.protocol.specs.Line.{Passage, through, requestLost, replyLost, requestDamaged, replyDamaged, Damage}
+use Rattle.protocol.specs.Line.{Passage, through, request_lost, reply_lost, request_damaged, reply_damaged, Damage}
 use Rattle.protocol.specs.Printer.{Station}
-use Rattle.protocol.specs.Download.{Given, passagesOf, verdictOf}
+use Rattle.protocol.specs.Download.{Given, passages_of, verdict_of}
 use Rattle.protocol.specs.declared.controller.Settings.{Settings}
 use Rattle.protocol.specs.declared.controller.Job.{Job}
 use Rattle.protocol.specs.declared.controller.Job.TheVariants as job
@@ -24,7 +24,7 @@ pub record Settled (c : Settings) : Type 0 where
   pub controller : c.controller ≤ 126
   pub unequal : c.printer ≡ c.controller → ⊥
   pub repeats : c.repeats ≤ 7
-  pub some-polls : 1 ≤ c.polls
+  pub some_polls : 1 ≤ c.polls
   pub polls : c.polls ≤ 31
 
 -- a book, and a diagnosis, that its reader does not refuse
@@ -64,11 +64,11 @@ Alternates c (job.Poll left) fcb = fcb ≡ eqb ((c.polls - left) % 2) 1
 -- every write where a template has one poll; else either may be.
 pub record Asks (c : Settings) (templates k : ℕ) (j : Job) (fcb : Bool) (left : ℕ) : Type 0 where
   pub from_one : 1 ≤ k
-  pub in-book : k ≤ templates
+  pub in_book : k ≤ templates
   pub polls : PollsLeft c j
   pub repeats : left ≤ c.repeats
-  pub first-fcb : k ≡ 1 → Alternates c j fcb
-  pub one-poll-fcb : c.polls ≡ 1 → Alternates c j fcb
+  pub first_fcb : k ≡ 1 → Alternates c j fcb
+  pub one_poll_fcb : c.polls ≡ 1 → Alternates c j fcb
 
 abbrev pub InReach : Settings → (templates : ℕ) → Controller → Type 0
 InReach c n controller.Fresh = Unit {0}
@@ -78,7 +78,7 @@ InReach c n (controller.Asking k j fcb repeats) = Asks c n k j fcb repeats
 pub record MayStep (c : Settings) (s : List ℕ) (o : Controller) : Type 0 where
   pub settings : Settled c
   pub book : Readable s
-  pub state : InReach c (length (templatesOf s)) o
+  pub state : InReach c (length (templates_of s)) o
 
 -- ---- the download
 
@@ -94,19 +94,19 @@ pub record MayRun (c : Settings) (s line diag : List ℕ) (x : Station) (request
 abbrev pub Undamaged : List Passage → Type 0
 Undamaged = Damage (λ bytes. ⊥)
 
-abbrev pub entryFor : Passage → ℕ
-entryFor through = 0
-entryFor requestLost = 1
-entryFor replyLost = 2
-entryFor (requestDamaged bytes) = 1
-entryFor (replyDamaged bytes) = 2
+abbrev pub entry_for : Passage → ℕ
+entry_for through = 0
+entry_for request_lost = 1
+entry_for reply_lost = 2
+entry_for (request_damaged bytes) = 1
+entry_for (reply_damaged bytes) = 2
 
-abbrev pub entriesFor : List Passage → List ℕ
-entriesFor [] = []
-entriesFor (h ∷ l) = entryFor h ∷ entriesFor l
+abbrev pub entries_for : List Passage → List ℕ
+entries_for [] = []
+entries_for (h ∷ l) = entry_for h ∷ entries_for l
 
 -- a book with these templates, a line with these entries, and a request's buffer, with which the download is not refused
 pub record SaidBy (g : Given) (l : List Passage) (x : Station) (s entries request : List ℕ) : Type 0 where
-  pub templates : templatesOf s ≡ g.book
-  pub passages : passagesOf entries ≡ l
-  pub taken : verdictOf g.settings s entries g.diagnosis x request ≡ fine
+  pub templates : templates_of s ≡ g.book
+  pub passages : passages_of entries ≡ l
+  pub taken : verdict_of g.settings s entries g.diagnosis x request ≡ fine

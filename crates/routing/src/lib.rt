@@ -1,7 +1,7 @@
 // Which service a telegram's function code and access points name, and which way it goes (document 01,
 // "Services by access point").
 ghost use Rattle.std.specs.Prelude.{◌≡◌};
-ghost use Rattle.access.specs.Route.{uncountedKind, kindBy, kind_of, named_by, isGlobalControl, callRoute, commandRoute, answerFrom, answerRoute, pointsWith, pointsBy, wayBy, routeBy, headerWith, headerOf, serviceRoute};
+ghost use Rattle.access.specs.Route.{uncounted_kind, kind_by, kind_of, named_by, is_global_control, call_route, command_route, answer_from, answer_route, points_with, points_by, way_by, route_by, header_with, header_of, service_route};
 
 use access::{Answering, Kind, Named, Points, Route, Service};
 use access_table::{find, points_of};
@@ -10,7 +10,7 @@ use function_code::{Class, class_of};
 
 // Functions 4 and 6 carry Global_Control, and no other uncounted call carries a service.
 fn uncounted_kind(fc: u8) -> Kind
-    ensures { result ≡ uncountedKind fc }
+    ensures { result ≡ uncounted_kind fc }
 {
     let function = fc % 16;
     match function {
@@ -22,7 +22,7 @@ fn uncounted_kind(fc: u8) -> Kind
 
 // The kind of telegram that a function code of this class makes.
 fn kind_by(class: Class, fc: u8) -> Kind
-    ensures { result ≡ kindBy class fc }
+    ensures { result ≡ kind_by class fc }
 {
     match class {
         Class::Opening => Kind::Call,
@@ -57,7 +57,7 @@ fn named_by(slave: Sap, master: Sap) -> Named
 }
 
 fn is_global_control(service: Service) -> bool
-    ensures { result ≡ isGlobalControl service }
+    ensures { result ≡ is_global_control service }
 {
     match service {
         Service::DataExchange => false,
@@ -76,7 +76,7 @@ fn is_global_control(service: Service) -> bool
 
 // An opening or counted call carries any service but Global_Control.
 fn call_route(named: Named) -> Route
-    ensures { result ≡ callRoute named }
+    ensures { result ≡ call_route named }
 {
     match named {
         Named::Nothing => Route::Nowhere,
@@ -91,7 +91,7 @@ fn call_route(named: Named) -> Route
 
 // Functions 4 and 6 carry Global_Control alone.
 fn command_route(named: Named) -> Route
-    ensures { result ≡ commandRoute named }
+    ensures { result ≡ command_route named }
 {
     match named {
         Named::Nothing => Route::Nowhere,
@@ -106,7 +106,7 @@ fn command_route(named: Named) -> Route
 
 // The services that answer with data; an answer of any other goes the wrong way.
 fn answer_from(service: Service) -> Route
-    ensures { result ≡ answerFrom service }
+    ensures { result ≡ answer_from service }
 {
     match service {
         Service::DataExchange => Route::Answer(Answering::DataExchange),
@@ -124,7 +124,7 @@ fn answer_from(service: Service) -> Route
 }
 
 fn answer_route(named: Named) -> Route
-    ensures { result ≡ answerRoute named }
+    ensures { result ≡ answer_route named }
 {
     match named {
         Named::Nothing => Route::Nowhere,
@@ -133,7 +133,7 @@ fn answer_route(named: Named) -> Route
 }
 
 fn header_with(da: u8, sa: u8, fc: u8, dsap: Sap, ssap: Sap) -> Header
-    ensures { result ≡ headerWith da sa fc dsap ssap }
+    ensures { result ≡ header_with da sa fc dsap ssap }
 {
     Header {
         da,
@@ -147,7 +147,7 @@ fn header_with(da: u8, sa: u8, fc: u8, dsap: Sap, ssap: Sap) -> Header
 // The header of a service's telegram. A call goes to the slave's access point, and an answer comes
 // from it: there the pair is turned round.
 pub fn header_of(service: Service, da: u8, sa: u8, fc: u8) -> Header
-    ensures { result ≡ headerOf service da sa fc }
+    ensures { result ≡ header_of service da sa fc }
 {
     let points = points_of(service);
     let slave = points.slave;
@@ -162,14 +162,14 @@ pub fn header_of(service: Service, da: u8, sa: u8, fc: u8) -> Header
 }
 
 fn points_with(slave: Sap, master: Sap) -> Points
-    ensures { result ≡ pointsWith slave master }
+    ensures { result ≡ points_with slave master }
 {
     Points { slave, master }
 }
 
 // The slave's access point and the master's. A call goes to the slave's, and an answer comes from it.
 fn points_by(kind: Kind, dsap: Sap, ssap: Sap) -> Points
-    ensures { result ≡ pointsBy kind dsap ssap }
+    ensures { result ≡ points_by kind dsap ssap }
 {
     match kind {
         Kind::Call => points_with(dsap, ssap),
@@ -180,7 +180,7 @@ fn points_by(kind: Kind, dsap: Sap, ssap: Sap) -> Points
 }
 
 fn way_by(kind: Kind, named: Named) -> Route
-    ensures { result ≡ wayBy kind named }
+    ensures { result ≡ way_by kind named }
 {
     match kind {
         Kind::Call => call_route(named),
@@ -194,7 +194,7 @@ fn way_by(kind: Kind, named: Named) -> Route
 // has looked it up already. What can carry no service is not looked up. The list is searched in one place, so that the
 // compiler puts the search here and its answer never stands in memory.
 pub fn route_by(class: Class, header: Header) -> Route
-    ensures { result ≡ routeBy (kindBy class header.fc) header.dsap header.ssap }
+    ensures { result ≡ route_by (kind_by class header.fc) header.dsap header.ssap }
 {
     let dsap = header.dsap;
     let ssap = header.ssap;
@@ -210,7 +210,7 @@ pub fn route_by(class: Class, header: Header) -> Route
 
 // The route of a telegram that is made for this service with this function code: no list has to be searched.
 pub fn route_for(service: Service, fc: u8) -> Route
-    ensures { result ≡ serviceRoute service fc }
+    ensures { result ≡ service_route service fc }
 {
     way_by(kind_of(fc), Named::Is(service))
 }

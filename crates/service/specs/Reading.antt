@@ -8,7 +8,7 @@ use Rattle.fdl.specs.declared.telegram.Format.{Format}
 use Rattle.fdl.specs.declared.telegram.Header.{Header}
 use Rattle.fdl.specs.declared.reading.Reading as telegram-type
 use Rattle.fdl.specs.declared.reading.Reading.TheVariants as telegram-reading
-use Rattle.access.specs.Route.{routeOf}
+use Rattle.access.specs.Route.{route_of}
 use Rattle.content.specs.Reading.{call_of, answer_of}
 use Rattle.access.specs.declared.route.Route.{Route}
 use Rattle.access.specs.declared.route.Route.TheVariants as route
@@ -27,20 +27,20 @@ abbrev pub placed_at : Format → Header → Way → (at : ℕ) → UserData →
 placed_at f h w at (user-data.Is c start len) = reading.Service f h w c (at + start) len
 placed_at f h w at (user-data.Refused r) = reading.Refused r
 
-abbrev pub routedBy : Route → Format → Header → (at : ℕ) → (user : List ℕ) → Mode → Reading
-routedBy route.Nowhere f h at user m = refused 10
-routedBy (route.Call s) f h at user m = placed_at f h way.Call at (call_of s user m)
-routedBy (route.Answer a) f h at user m = placed_at f h way.Answer at (answer_of a user)
+abbrev pub routed_by : Route → Format → Header → (at : ℕ) → (user : List ℕ) → Mode → Reading
+routed_by route.Nowhere f h at user m = refused 10
+routed_by (route.Call s) f h at user m = placed_at f h way.Call at (call_of s user m)
+routed_by (route.Answer a) f h at user m = placed_at f h way.Answer at (answer_of a user)
 
 -- a token and a short confirmation carry no service
-abbrev pub serviceIn : List ℕ → Mode → telegram-type.Reading → Reading
-serviceIn s m telegram-reading.Confirmation = refused 10
-serviceIn s m (telegram-reading.Token da sa) = refused 10
-serviceIn s m (telegram-reading.Telegram f h start len) = routedBy (routeOf h) f h start (part_of s start len) m
-serviceIn s m (telegram-reading.Refused r) = reading.Refused r
+abbrev pub service_in : List ℕ → Mode → telegram-type.Reading → Reading
+service_in s m telegram-reading.Confirmation = refused 10
+service_in s m (telegram-reading.Token da sa) = refused 10
+service_in s m (telegram-reading.Telegram f h start len) = routed_by (route_of h) f h start (part_of s start len) m
+service_in s m (telegram-reading.Refused r) = reading.Refused r
 
 unfoldable pub read_of : List ℕ → Mode → Reading
-read_of s m = serviceIn s m (telegram.read_of s)
+read_of s m = service_in s m (telegram.read_of s)
 
 abbrev pub accepted : Reading → Bool
 accepted (reading.Service f h w c start len) = true

@@ -8,51 +8,51 @@ use Rattle.octets.specs.declared.Written.TheVariants.{Stored, Refused}
 use Rattle.fdl.specs.Writing as telegram
 use Rattle.fdl.specs.declared.telegram.Format.{Format}
 use Rattle.fdl.specs.declared.telegram.Header.{Header}
-use Rattle.access.specs.Route.{answerFrom, routeOf, headerOf}
+use Rattle.access.specs.Route.{answer_from, route_of, header_of}
 use Rattle.access.specs.declared.route.Route.{Route}
 use Rattle.access.specs.declared.route.Route.TheVariants as route
 use Rattle.access.specs.declared.table.Service.{Service}
-use Rattle.content.specs.Fields.{serviceOf}
-use Rattle.content.specs.Writing.{bytesFor, callVerdict, answerVerdict}
+use Rattle.content.specs.Fields.{service_of}
+use Rattle.content.specs.Writing.{bytes_for, call_verdict, answer_verdict}
 use Rattle.content.specs.declared.fields.Content.{Content}
 use Rattle.service.specs.declared.reading.Way.{Way}
 use Rattle.service.specs.declared.reading.Way.TheVariants as way
 
 -- the header: the function code decides the way, and service and way the access points
-abbrev pub headerFor : (da sa fc : ℕ) → Content → Header
-headerFor da sa fc c = headerOf (serviceOf c) da sa fc
+abbrev pub header_for : (da sa fc : ℕ) → Content → Header
+header_for da sa fc c = header_of (service_of c) da sa fc
 
-unfoldable pub telegramFor : Format → (da sa fc : ℕ) → Content → (part : List ℕ) → List ℕ
-telegramFor f da sa fc c part = telegram.telegramOf f (headerFor da sa fc c) (bytesFor c part)
+unfoldable pub telegram_for : Format → (da sa fc : ℕ) → Content → (part : List ℕ) → List ℕ
+telegram_for f da sa fc c part = telegram.telegram_of f (header_for da sa fc c) (bytes_for c part)
 
 -- the route of a service on its way
-abbrev pub routeFor : Way → Service → Route
-routeFor way.Call s = route.Call s
-routeFor way.Answer s = answerFrom s
+abbrev pub route_for : Way → Service → Route
+route_for way.Call s = route.Call s
+route_for way.Answer s = answer_from s
 
 -- the way of a route that leads somewhere
-abbrev pub wayBy : Route → Way
-wayBy (route.Call s) = way.Call
-wayBy (route.Answer a) = way.Answer
-wayBy route.Nowhere = way.Call
+abbrev pub way_by : Route → Way
+way_by (route.Call s) = way.Call
+way_by (route.Answer a) = way.Answer
+way_by route.Nowhere = way.Call
 
 -- the verdict on the data, by the way
-abbrev pub wayVerdict : Way → Content → (part : List ℕ) → Verdict
-wayVerdict way.Call c part = callVerdict c part
-wayVerdict way.Answer c part = answerVerdict c part
+abbrev pub way_verdict : Way → Content → (part : List ℕ) → Verdict
+way_verdict way.Call c part = call_verdict c part
+way_verdict way.Answer c part = answer_verdict c part
 
 -- 10 for a function code that the service does not go by, then the data's own
-abbrev pub routeVerdict : Route → Content → (part : List ℕ) → Verdict
-routeVerdict route.Nowhere c part = fault 10
-routeVerdict (route.Call s) c part = wayVerdict way.Call c part
-routeVerdict (route.Answer a) c part = wayVerdict way.Answer c part
+abbrev pub route_verdict : Route → Content → (part : List ℕ) → Verdict
+route_verdict route.Nowhere c part = fault 10
+route_verdict (route.Call s) c part = way_verdict way.Call c part
+route_verdict (route.Answer a) c part = way_verdict way.Answer c part
 
 -- 12 for the telegram's fields comes before all of it
-unfoldable pub verdictOf : Format → (da sa fc : ℕ) → Content → (part : List ℕ) → Verdict
-verdictOf f da sa fc c part =
-    judged fault (telegram.verdictOf f (headerFor da sa fc c) (bytesFor c part)) (routeVerdict (routeOf (headerFor da sa fc c)) c part)
+unfoldable pub verdict_of : Format → (da sa fc : ℕ) → Content → (part : List ℕ) → Verdict
+verdict_of f da sa fc c part =
+    judged fault (telegram.verdict_of f (header_for da sa fc c) (bytes_for c part)) (route_verdict (route_of (header_for da sa fc c)) c part)
 
 -- data whose writer was lent no room: its own refusal, else 11
-abbrev pub noRoom : Written → Written
-noRoom (Stored n) = Refused 11
-noRoom (Refused k) = Refused k
+abbrev pub no_room : Written → Written
+no_room (Stored n) = Refused 11
+no_room (Refused k) = Refused k

@@ -1,10 +1,10 @@
 // A service's own fields, and which content such fields name.
 ghost use Rattle.std.specs.Prelude.{◌≡◌, ◌∷◌};
 ghost use Rattle.octets.specs.Places.{places_of};
-ghost use Rattle.function_code.specs.Code.{classOf};
-ghost use Rattle.parameters.specs.Writing.{statusBytes};
-ghost use Rattle.acyclic_fields.specs.Four.{fourBytes};
-ghost use Rattle.service_fields.specs.Service.{ownBytes, ownFields, isAnswer, rightWay, named_by, dpv1In, diagnosisIn, extensionIn, parametersIn, unlistedBy, contentIn};
+ghost use Rattle.function_code.specs.Code.{class_of};
+ghost use Rattle.parameters.specs.Writing.{status_bytes};
+ghost use Rattle.acyclic_fields.specs.Four.{four_bytes};
+ghost use Rattle.service_fields.specs.Service.{own_bytes, own_fields, is_answer, right_way, named_by, dpv1_in, diagnosis_in, extension_in, parameters_in, unlisted_by, content_in};
 
 use access::{
     CHK_CFG, DATA_EXCHANGE, DPV1, EXT_USER_PRM, GET_CFG, GLOBAL_CONTROL, RD_INP, RD_OUTP, SET_PRM,
@@ -36,14 +36,14 @@ pub struct Own(
 
 // The fields of a service that has at most four.
 fn led(service: u8, four: Four) -> Own
-    ensures { ownBytes result ≡ service ∷ places_of 10 (fourBytes four) }
+    ensures { own_bytes result ≡ service ∷ places_of 10 (four_bytes four) }
 {
     Own(service, four.0, four.1, four.2, four.3, 0, 0, 0, 0, 0, 0)
 }
 
 // The three bytes that DPV1 adds to parameters.
 fn status_four(extension: Extension) -> Four
-    ensures { fourBytes result ≡ places_of 4 (statusBytes extension) }
+    ensures { four_bytes result ≡ places_of 4 (status_bytes extension) }
 {
     match extension {
         Extension::Dpv0 => Four(0, 0, 0, 0),
@@ -56,7 +56,7 @@ fn status_four(extension: Extension) -> Four
 }
 
 fn parameters_own(fields: Parameters) -> Own
-    ensures { ownBytes result ≡ ownFields (Content.SetPrm fields) }
+    ensures { own_bytes result ≡ own_fields (Content.SetPrm fields) }
 {
     let response = fields.response;
     let ident = fields.ident;
@@ -78,7 +78,7 @@ fn parameters_own(fields: Parameters) -> Own
 }
 
 fn diagnosis_own(header: Header) -> Own
-    ensures { ownBytes result ≡ ownFields (Content.SlaveDiag header) }
+    ensures { own_bytes result ≡ own_fields (Content.SlaveDiag header) }
 {
     let ident = header.ident;
     Own(
@@ -98,7 +98,7 @@ fn diagnosis_own(header: Header) -> Own
 
 // A content's service and its own fields.
 pub fn own_of(content: Content) -> Own
-    ensures { ownBytes result ≡ ownFields content }
+    ensures { own_bytes result ≡ own_fields content }
 {
     match content {
         Content::DataExchange => led(DATA_EXCHANGE, Four(0, 0, 0, 0)),
@@ -141,7 +141,7 @@ pub enum Named {
 
 // A function code of an answer; any other counts as a call's.
 fn is_answer(fc: u8) -> bool
-    ensures { result ≡ isAnswer (classOf fc) }
+    ensures { result ≡ is_answer (class_of fc) }
 {
     let class = function_code::class_of(fc);
     match class {
@@ -156,7 +156,7 @@ fn is_answer(fc: u8) -> bool
 
 // Whether the way that the fields give is the function code's.
 pub fn right_way(fields: &[u8; 18]) -> bool
-    ensures { result ≡ rightWay fields.now }
+    ensures { result ≡ right_way fields.now }
 {
     if is_answer(fields[5]) {
         return fields[1] == 1;
@@ -176,7 +176,7 @@ fn named_by(case: Case) -> Named
 
 // The way decides which DPV1 numbers there are.
 fn dpv1_in(fields: &[u8; 18]) -> Named
-    ensures { result ≡ dpv1In fields.now }
+    ensures { result ≡ dpv1_in fields.now }
 {
     if is_answer(fields[5]) {
         return named_by(answer_named(fields[8], fields[9], fields[10], fields[11]));
@@ -186,7 +186,7 @@ fn dpv1_in(fields: &[u8; 18]) -> Named
 
 // A call of Slave_Diag has no fields.
 fn diagnosis_in(fields: &[u8; 18]) -> Content
-    ensures { result ≡ diagnosisIn fields.now }
+    ensures { result ≡ diagnosis_in fields.now }
 {
     if !is_answer(fields[5]) {
         return Content::SlaveDiagCall;
@@ -202,7 +202,7 @@ fn diagnosis_in(fields: &[u8; 18]) -> Content
 
 // Only DPV1 has the three status bytes.
 fn extension_in(version: u8, status1: u8, status2: u8, status3: u8) -> Extension
-    ensures { result ≡ extensionIn version status1 status2 status3 }
+    ensures { result ≡ extension_in version status1 status2 status3 }
 {
     if version == 0 {
         return Extension::Dpv0;
@@ -215,7 +215,7 @@ fn extension_in(version: u8, status1: u8, status2: u8, status3: u8) -> Extension
 }
 
 fn parameters_in(fields: &[u8; 18], version: u8) -> Parameters
-    ensures { result ≡ parametersIn fields.now version }
+    ensures { result ≡ parameters_in fields.now version }
 {
     let response = BitTimes(fields[11]);
     let extension = extension_in(version, fields[15], fields[16], fields[17]);
@@ -232,7 +232,7 @@ fn parameters_in(fields: &[u8; 18], version: u8) -> Parameters
 
 // A number that is no service's. Access points are 0 to 63.
 fn unlisted_by(service: u8) -> Named
-    ensures { result ≡ unlistedBy service }
+    ensures { result ≡ unlisted_by service }
 {
     if 63 < service {
         return Named::Nothing;
@@ -243,7 +243,7 @@ fn unlisted_by(service: u8) -> Named
 // What the service's number and its own fields name. Fields that the service does not have are not
 // looked at.
 pub fn content_in(fields: &[u8; 18], version: u8) -> Named
-    ensures { result ≡ contentIn fields.now version }
+    ensures { result ≡ content_in fields.now version }
 {
     let service = fields[0];
     match service {

@@ -1,9 +1,9 @@
 // Reading a whole telegram as a service: the telegram's own refusal, then its route, then its data.
 ghost use Rattle.std.specs.Prelude.{◌≡◌, ◌+◌, ◌≤◌, length};
-ghost use Rattle.function_code.specs.Code.{classOf};
-ghost use Rattle.access.specs.Route.{routeOf};
+ghost use Rattle.function_code.specs.Code.{class_of};
+ghost use Rattle.access.specs.Route.{route_of};
 ghost use Rattle.content.specs.Reading.{end_of};
-ghost use Rattle.service.specs.Reading.{placed_at, routedBy, read_of};
+ghost use Rattle.service.specs.Reading.{placed_at, routed_by, read_of};
 
 use access::Route;
 use content::UserData;
@@ -44,8 +44,8 @@ fn routed(
     user: &[u8],
     mode: Mode,
 ) -> Reading
-    requires { (class ≡ classOf header.fc) × (at + length user.now ≤ 18446744073709551615) }
-    ensures { result ≡ routedBy (routeOf header) format header at user.now mode }
+    requires { (class ≡ class_of header.fc) × (at + length user.now ≤ 18446744073709551615) }
+    ensures { result ≡ routed_by (route_of header) format header at user.now mode }
 {
     let route = routing::route_by(class, header);
     match route {

@@ -2,12 +2,12 @@
 // that the service does not go by 10; then come the refusals of the service's own data, and 11 last.
 ghost use Rattle.std.specs.Prelude.{◌≡◌, true, ◌+◌, ◌≤◌, ltb, length};
 ghost use Rattle.octets.specs.Choice.{pick};
-ghost use Rattle.octets.specs.Front.{answerBy, heldBy};
-ghost use Rattle.fdl.specs.Around.{goodFields};
-ghost use Rattle.fdl.specs.Writing.{telegramOf};
-ghost use Rattle.content.specs.Fields.{fixedLength};
-ghost use Rattle.content.specs.Writing.{bytesFor};
-ghost use Rattle.service.specs.Writing.{wayBy, wayVerdict, verdictOf, telegramFor, noRoom};
+ghost use Rattle.octets.specs.Front.{answer_by, held_by};
+ghost use Rattle.fdl.specs.Around.{good_fields};
+ghost use Rattle.fdl.specs.Writing.{telegram_of};
+ghost use Rattle.content.specs.Fields.{fixed_length};
+ghost use Rattle.content.specs.Writing.{bytes_for};
+ghost use Rattle.service.specs.Writing.{way_by, way_verdict, verdict_of, telegram_for, no_room};
 
 use access::Route;
 use content::Content;
@@ -17,8 +17,8 @@ use service::Way;
 
 // Writes the user data at the front of out.
 fn write_data(way: Way, content: Content, part: &[u8], out: &mut [u8]) -> Written
-    ensures answer { result ≡ answerBy (wayVerdict way content part.now) (bytesFor content part.now) (length out.old) }
-    ensures bytes { out.new ≡ heldBy (wayVerdict way content part.now) (bytesFor content part.now) out.old }
+    ensures answer { result ≡ answer_by (way_verdict way content part.now) (bytes_for content part.now) (length out.old) }
+    ensures bytes { out.new ≡ held_by (way_verdict way content part.now) (bytes_for content part.now) out.old }
 {
     match way {
         Way::Call => content_writer::write_call(content, part, out),
@@ -28,7 +28,7 @@ fn write_data(way: Way, content: Content, part: &[u8], out: &mut [u8]) -> Writte
 
 // The answer where the telegram has no room, by what the data's writer says without any.
 fn no_room(written: Written) -> Written
-    ensures { result ≡ noRoom written }
+    ensures { result ≡ no_room written }
 {
     match written {
         Written::Stored(_) => Written::Refused(11),
@@ -59,9 +59,9 @@ fn write_way(
     part: &[u8],
     out: &mut [u8],
 ) -> Written
-    requires { (len ≡ fixedLength content + length part.now) × (goodFields format header len ≡ true) }
-    ensures answer { result ≡ answerBy (wayVerdict way content part.now) (telegramOf format header (bytesFor content part.now)) (length out.old) }
-    ensures bytes { out.new ≡ heldBy (wayVerdict way content part.now) (telegramOf format header (bytesFor content part.now)) out.old }
+    requires { (len ≡ fixed_length content + length part.now) × (good_fields format header len ≡ true) }
+    ensures answer { result ≡ answer_by (way_verdict way content part.now) (telegram_of format header (bytes_for content part.now)) (length out.old) }
+    ensures bytes { out.new ≡ held_by (way_verdict way content part.now) (telegram_of format header (bytes_for content part.now)) out.old }
 {
     let start = framing::user_start(format, header);
     let whole = start + len + 2;
@@ -80,7 +80,7 @@ fn write_way(
 
 // The way of a route that leads somewhere; one that leads nowhere is refused before.
 fn way_of(route: Route) -> Way
-    ensures { result ≡ wayBy route }
+    ensures { result ≡ way_by route }
 {
     match route {
         Route::Call(_) => Way::Call,
@@ -100,8 +100,8 @@ pub fn write(
     part: &[u8],
     out: &mut [u8],
 ) -> Written
-    ensures answer { result ≡ answerBy (verdictOf format da sa fc content part.now) (telegramFor format da sa fc content part.now) (length out.old) }
-    ensures bytes { out.new ≡ heldBy (verdictOf format da sa fc content part.now) (telegramFor format da sa fc content part.now) out.old }
+    ensures answer { result ≡ answer_by (verdict_of format da sa fc content part.now) (telegram_for format da sa fc content part.now) (length out.old) }
+    ensures bytes { out.new ≡ held_by (verdict_of format da sa fc content part.now) (telegram_for format da sa fc content part.now) out.old }
 {
     let service = content::service_of(content);
     let header = routing::header_of(service, da, sa, fc);

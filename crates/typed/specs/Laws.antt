@@ -4,27 +4,27 @@ use Rattle.std.proofs.Common.{subst}
 use Rattle.octets.specs.Bytes.{Bytes}
 use Rattle.octets.specs.Number.{number_of}
 use Rattle.octets.specs.Front.{fine}
-use Rattle.typed.specs.Value.{Kind, code_in, kind_of, patternIn, InRange}
+use Rattle.typed.specs.Value.{Kind, code_in, kind_of, pattern_in, InRange}
 use Rattle.typed.specs.Reading.{read_of}
-use Rattle.typed.specs.Writing.{verdictOf, bytesFor}
-use Rattle.typed.specs.Lemmas.Back.{kind-back, back}
+use Rattle.typed.specs.Writing.{verdict_of, bytes_for}
+use Rattle.typed.specs.Lemmas.Back.{kind_back, back}
 use Rattle.typed.specs.Lemmas.Again.{Again, again}
 use Rattle.typed.specs.declared.value.Value.{Value}
 use Rattle.typed.specs.declared.reading.Reading.TheVariants.{Value as Read}
 
 -- No two kinds share a code: the code of each is read as that kind.
-pub kind-of-code : (k : Kind) → kind_of (code_in k) ≡ k
-kind-of-code k = kind-back k
+pub kind_of_code : (k : Kind) → kind_of (code_in k) ≡ k
+kind_of_code k = kind_back k
 
 -- (a) What is written reads back as the same value. Every value that the code can be given is in range.
-pub reads-back : (v : Value) → InRange v → verdictOf v ≡ fine → read_of (bytesFor v) ≡ Read v
-reads-back v r e = back v r e
+pub reads_back : (v : Value) → InRange v → verdict_of v ≡ fine → read_of (bytes_for v) ≡ Read v
+reads_back v r e = back v r e
 
 module _ (s : List ℕ) (bytes : Bytes s) {v : Value} (e : read_of s ≡ Read v) where
   -- (b) What is read may be written, and gives the same bytes again.
-  pub writes-back : (verdictOf v ≡ fine) × (bytesFor v ≡ s)
-  writes-back = let a = subst (Again s bytes) e (again s bytes) in (a.0, a.2)
+  pub writes_back : (verdict_of v ≡ fine) × (bytes_for v ≡ s)
+  writes_back = let a = subst (Again s bytes) e (again s bytes) in (a.0, a.2)
 
   -- The bits behind the code are kept exactly, those of a NaN too.
-  pub bits-kept : patternIn v ≡ number_of (drop 1 s)
-  bits-kept = (subst (Again s bytes) e (again s bytes)).1
+  pub bits_kept : pattern_in v ≡ number_of (drop 1 s)
+  bits_kept = (subst (Again s bytes) e (again s bytes)).1

@@ -2,17 +2,17 @@
 use Rattle.std.specs.Prelude.{ℕ, ◌+◌, Bool, true, false, not, List, length, get_or, drop, eqb, leb}
 use Rattle.octets.specs.Choice.{pick, ◌and◌, ◌or◌}
 use Rattle.octets.specs.Number.{number_of}
-use Rattle.typed.specs.Value.{boolean, floating, code_in, kind_of, width_of, booleanByte, value_of}
+use Rattle.typed.specs.Value.{boolean, floating, code_in, kind_of, width_of, boolean_byte, value_of}
 use Rattle.typed.specs.declared.reading.Reading.{Reading}
 use Rattle.typed.specs.declared.reading.Reading.TheVariants.{Value, Refused}
 
 -- codes 1..8
-abbrev pub goodCode : ℕ → Bool
-goodCode c = not (eqb c 0) and leb c (code_in floating)
+abbrev pub good_code : ℕ → Bool
+good_code c = not (eqb c 0) and leb c (code_in floating)
 
 -- the byte of a Boolean is that of false or of true
-abbrev pub goodBoolean : (code first : ℕ) → Bool
-goodBoolean c x = not (eqb c (code_in boolean)) or eqb x (booleanByte false) or eqb x (booleanByte true)
+abbrev pub good_boolean : (code first : ℕ) → Bool
+good_boolean c x = not (eqb c (code_in boolean)) or eqb x (boolean_byte false) or eqb x (boolean_byte true)
 
 abbrev pub refused : ℕ → Reading
 refused k = Refused (record { number = k })
@@ -20,7 +20,7 @@ refused k = Refused (record { number = k })
 unfoldable pub read_of : List ℕ → Reading
 read_of s =
     pick (eqb (length s) 0) (refused 20)
-    (pick (not (goodCode (get_or s 0 0))) (refused 29)
+    (pick (not (good_code (get_or s 0 0))) (refused 29)
     (pick (not (eqb (length s) (1 + width_of (get_or s 0 0)))) (refused 20)
-    (pick (not (goodBoolean (get_or s 0 0) (get_or s 1 0))) (refused 29)
+    (pick (not (good_boolean (get_or s 0 0) (get_or s 1 0))) (refused 29)
     (Value (value_of (kind_of (get_or s 0 0)) (number_of (drop 1 s)))))))

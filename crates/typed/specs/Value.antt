@@ -6,7 +6,7 @@ use Rattle.std.specs.Float.Ieee.{fits, to_bits}
 use Rattle.std.specs.Int.{Width, w8, w16, w32}
 use mir.Val.{SFits, bytes, to_z, of_z}
 use Rattle.octets.specs.Choice.{pick}
-use Rattle.float.specs.Float.{floatingOf}
+use Rattle.float.specs.Float.{floating_of}
 use Rattle.float.specs.declared.Floating.{Floating}
 use Rattle.float.specs.declared.Floating.TheVariants.{Number, Nan as NanBits}
 use Rattle.typed.specs.declared.value.Value.{Value}
@@ -63,38 +63,38 @@ abbrev pub width_of : (code : ℕ) → ℕ
 width_of c = width_in (kind_of c)
 
 -- what each case of a value is
-abbrev pub kindIn : Value → Kind
-kindIn (Boolean b) = boolean
-kindIn (I8 z) = signed one
-kindIn (I16 z) = signed two
-kindIn (I32 z) = signed four
-kindIn (U8 n) = unsigned one
-kindIn (U16 n) = unsigned two
-kindIn (U32 n) = unsigned four
-kindIn (Float x) = floating
-kindIn (Nan n) = floating
+abbrev pub kind_in : Value → Kind
+kind_in (Boolean b) = boolean
+kind_in (I8 z) = signed one
+kind_in (I16 z) = signed two
+kind_in (I32 z) = signed four
+kind_in (U8 n) = unsigned one
+kind_in (U16 n) = unsigned two
+kind_in (U32 n) = unsigned four
+kind_in (Float x) = floating
+kind_in (Nan n) = floating
 
 abbrev pub code_of : Value → ℕ
-code_of v = code_in (kindIn v)
+code_of v = code_in (kind_in v)
 
 -- ---- a value and its pattern
 
 -- the byte of a Boolean
-abbrev pub booleanByte : Bool → ℕ
-booleanByte true = 0xFF
-booleanByte false = 0x00
+abbrev pub boolean_byte : Bool → ℕ
+boolean_byte true = 0xFF
+boolean_byte false = 0x00
 
--- the pattern of a value: a signed number is in two's complement, a floating-point value has its 32 bits
-abbrev pub patternIn : Value → ℕ
-patternIn (Boolean b) = booleanByte b
-patternIn (I8 z) = of_z w8 z
-patternIn (I16 z) = of_z w16 z
-patternIn (I32 z) = of_z w32 z
-patternIn (U8 n) = n
-patternIn (U16 n) = n
-patternIn (U32 n) = n
-patternIn (Float x) = to_bits binary32 x
-patternIn (Nan n) = n
+-- the pattern of a value: a signed number is in two's complement, a floating_point value has its 32 bits
+abbrev pub pattern_in : Value → ℕ
+pattern_in (Boolean b) = boolean_byte b
+pattern_in (I8 z) = of_z w8 z
+pattern_in (I16 z) = of_z w16 z
+pattern_in (I32 z) = of_z w32 z
+pattern_in (U8 n) = n
+pattern_in (U16 n) = n
+pattern_in (U32 n) = n
+pattern_in (Float x) = to_bits binary32 x
+pattern_in (Nan n) = n
 
 -- every value that the code can be given is within the range of its type
 abbrev pub InRange : Value → Type 0
@@ -109,22 +109,22 @@ InRange (Float x) = T (fits binary32 x)
 InRange (Nan n) = n < 2 ^ 32
 
 -- the values of a pattern
-abbrev pub signedValue : Size → ℤ → Value
-signedValue one z = I8 z
-signedValue two z = I16 z
-signedValue four z = I32 z
+abbrev pub signed_value : Size → ℤ → Value
+signed_value one z = I8 z
+signed_value two z = I16 z
+signed_value four z = I32 z
 
-abbrev pub unsignedValue : Size → ℕ → Value
-unsignedValue one n = U8 n
-unsignedValue two n = U16 n
-unsignedValue four n = U32 n
+abbrev pub unsigned_value : Size → ℕ → Value
+unsigned_value one n = U8 n
+unsigned_value two n = U16 n
+unsigned_value four n = U32 n
 
-abbrev pub floatingValue : Floating → Value
-floatingValue (Number x) = Float x
-floatingValue (NanBits n) = Nan n
+abbrev pub floating_value : Floating → Value
+floating_value (Number x) = Float x
+floating_value (NanBits n) = Nan n
 
 unfoldable pub value_of : Kind → (pattern : ℕ) → Value
-value_of boolean n = Boolean (eqb n (booleanByte true))
-value_of (signed s) n = signedValue s (to_z (bits_of s) n)
-value_of (unsigned s) n = unsignedValue s n
-value_of floating n = floatingValue (floatingOf n)
+value_of boolean n = Boolean (eqb n (boolean_byte true))
+value_of (signed s) n = signed_value s (to_z (bits_of s) n)
+value_of (unsigned s) n = unsigned_value s n
+value_of floating n = floating_value (floating_of n)

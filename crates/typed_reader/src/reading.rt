@@ -2,7 +2,7 @@
 ghost use Rattle.std.specs.Prelude.{◌≡◌, ◌+◌, length, drop};
 ghost use Rattle.octets.specs.Number.{number_of};
 ghost use Rattle.typed.specs.Value.{floating, kind_of, width_of, value_of};
-ghost use Rattle.typed.specs.Reading.{goodCode, goodBoolean, read_of};
+ghost use Rattle.typed.specs.Reading.{good_code, good_boolean, read_of};
 
 use crate::signed::{signed8, signed16, signed32};
 use float::Floating;
@@ -14,7 +14,7 @@ use typed::{
 
 // Codes 1 to 8.
 fn good_code(code: u8) -> bool
-    ensures { result ≡ goodCode code }
+    ensures { result ≡ good_code code }
 {
     if code == 0 {
         return false;
@@ -39,7 +39,7 @@ fn width(code: u8) -> usize
 
 // The byte of a Boolean is 00 or FF; of any other value it is any.
 fn good_boolean(code: u8, first: u8) -> bool
-    ensures { result ≡ goodBoolean code first }
+    ensures { result ≡ good_boolean code first }
 {
     if code != BOOLEAN {
         return true;

@@ -1,9 +1,9 @@
 // Writing a typed value.
 ghost use Rattle.std.specs.Prelude.{◌≡◌, ◌∷◌, length};
 ghost use Rattle.octets.specs.Number.{bytes_of};
-ghost use Rattle.octets.specs.Front.{fine, answerBy, heldBy};
-ghost use Rattle.typed.specs.Value.{booleanByte};
-ghost use Rattle.typed.specs.Writing.{verdictOf, bytesFor};
+ghost use Rattle.octets.specs.Front.{fine, answer_by, held_by};
+ghost use Rattle.typed.specs.Value.{boolean_byte};
+ghost use Rattle.typed.specs.Writing.{verdict_of, bytes_for};
 
 use crate::signed::{pattern8, pattern16, pattern32};
 use float::Pattern;
@@ -15,15 +15,15 @@ use typed::{
 
 // The byte of a Boolean.
 fn boolean_byte(yes: bool) -> u8
-    ensures { result ≡ booleanByte yes }
+    ensures { result ≡ boolean_byte yes }
 {
     if yes { 0xFF } else { 0 }
 }
 
 // Writes a code and a pattern of one byte.
 fn write8(code: u8, pattern: u8, out: &mut [u8]) -> Written
-    ensures answer { result ≡ answerBy fine (code ∷ bytes_of 1 pattern) (length out.old) }
-    ensures bytes { out.new ≡ heldBy fine (code ∷ bytes_of 1 pattern) out.old }
+    ensures answer { result ≡ answer_by fine (code ∷ bytes_of 1 pattern) (length out.old) }
+    ensures bytes { out.new ≡ held_by fine (code ∷ bytes_of 1 pattern) out.old }
 {
     if out.len() < 2 {
         return Written::Refused(11);
@@ -35,8 +35,8 @@ fn write8(code: u8, pattern: u8, out: &mut [u8]) -> Written
 
 // Writes a code and a pattern of two bytes.
 fn write16(code: u8, pattern: u16, out: &mut [u8]) -> Written
-    ensures answer { result ≡ answerBy fine (code ∷ bytes_of 2 pattern) (length out.old) }
-    ensures bytes { out.new ≡ heldBy fine (code ∷ bytes_of 2 pattern) out.old }
+    ensures answer { result ≡ answer_by fine (code ∷ bytes_of 2 pattern) (length out.old) }
+    ensures bytes { out.new ≡ held_by fine (code ∷ bytes_of 2 pattern) out.old }
 {
     if out.len() < 3 {
         return Written::Refused(11);
@@ -47,8 +47,8 @@ fn write16(code: u8, pattern: u16, out: &mut [u8]) -> Written
 
 // Writes a code and a pattern of four bytes.
 fn write32(code: u8, pattern: u32, out: &mut [u8]) -> Written
-    ensures answer { result ≡ answerBy fine (code ∷ bytes_of 4 pattern) (length out.old) }
-    ensures bytes { out.new ≡ heldBy fine (code ∷ bytes_of 4 pattern) out.old }
+    ensures answer { result ≡ answer_by fine (code ∷ bytes_of 4 pattern) (length out.old) }
+    ensures bytes { out.new ≡ held_by fine (code ∷ bytes_of 4 pattern) out.old }
 {
     if out.len() < 5 {
         return Written::Refused(11);
@@ -59,8 +59,8 @@ fn write32(code: u8, pattern: u32, out: &mut [u8]) -> Written
 
 // Writes a floating-point value. A NaN that is given as an `f32` has no pattern to write.
 fn write_float(number: f32, out: &mut [u8]) -> Written
-    ensures answer { result ≡ answerBy (verdictOf (Value.Float number)) (bytesFor (Value.Float number)) (length out.old) }
-    ensures bytes { out.new ≡ heldBy (verdictOf (Value.Float number)) (bytesFor (Value.Float number)) out.old }
+    ensures answer { result ≡ answer_by (verdict_of (Value.Float number)) (bytes_for (Value.Float number)) (length out.old) }
+    ensures bytes { out.new ≡ held_by (verdict_of (Value.Float number)) (bytes_for (Value.Float number)) out.old }
 {
     let pattern = float::pattern_of(number);
     match pattern {
@@ -71,8 +71,8 @@ fn write_float(number: f32, out: &mut [u8]) -> Written
 
 // Writes a NaN's pattern. Bits that are a number's would not be read back as a NaN's.
 fn write_nan(bits: u32, out: &mut [u8]) -> Written
-    ensures answer { result ≡ answerBy (verdictOf (Value.Nan bits)) (bytesFor (Value.Nan bits)) (length out.old) }
-    ensures bytes { out.new ≡ heldBy (verdictOf (Value.Nan bits)) (bytesFor (Value.Nan bits)) out.old }
+    ensures answer { result ≡ answer_by (verdict_of (Value.Nan bits)) (bytes_for (Value.Nan bits)) (length out.old) }
+    ensures bytes { out.new ≡ held_by (verdict_of (Value.Nan bits)) (bytes_for (Value.Nan bits)) out.old }
 {
     if !float::is_nan_pattern(bits) {
         return Written::Refused(12);
@@ -82,8 +82,8 @@ fn write_nan(bits: u32, out: &mut [u8]) -> Written
 
 // Writes a typed value.
 pub fn write(value: Value, out: &mut [u8]) -> Written
-    ensures answer { result ≡ answerBy (verdictOf value) (bytesFor value) (length out.old) }
-    ensures bytes { out.new ≡ heldBy (verdictOf value) (bytesFor value) out.old }
+    ensures answer { result ≡ answer_by (verdict_of value) (bytes_for value) (length out.old) }
+    ensures bytes { out.new ≡ held_by (verdict_of value) (bytes_for value) out.old }
 {
     match value {
         Value::Boolean(yes) => write8(BOOLEAN, boolean_byte(yes), out),

@@ -3,7 +3,7 @@ use native.Mathlib.Omega.{arith}
 use lib.ListN.{length-set}
 use borrow.Author.Rules.{rules}
 use Rattle.octets.specs.Front.{stores}
-use Rattle.address_change.specs.Address.{fixedBytes}
+use Rattle.address_change.specs.Address.{fixed_bytes}
 use Rattle.address_change.proofs.put.Statement.{statement}
 use Rattle.address_change.proofs.put.Tie as tie
 
@@ -29,7 +29,7 @@ same_length : tie.Need-same-length
 same_length c = search rules
 
 returns : tie.Need-returns
-returns c = stores (fixedBytes c.args.fields) c.args.out.now c.requires
+returns c = stores (fixed_bytes c.args.fields) c.args.out.now c.requires
 
 pub put_spec : {M : Type 1} → statement M
 put_spec =

@@ -27,17 +27,17 @@ pub record Judged (m a : ℕ) (xs ns : List ℕ) (t : ℕ) : Type 0 where
   pub good : Good m xs ns
   pub sum : t ≡ a + sum_of ns
 
-pub table-good : (m a : ℕ) (xs ns : List ℕ) {t : ℕ} → length ns ≡ length xs → table_of m a xs ns ≡ Total t → Judged m a xs ns t
+pub table_good : (m a : ℕ) (xs ns : List ℕ) {t : ℕ} → length ns ≡ length xs → table_of m a xs ns ≡ Total t → Judged m a xs ns t
 unfolding table_of
-table-good m a [] [] {t} h e = let f : a ≡ t = cc in record { good = none; sum = omega arith }
-table-good m a [] (n ∷ ns) h e = absurd (omega arith)
-table-good m a (x ∷ xs) [] h e = absurd (omega arith)
-table-good m a (x ∷ xs) (n ∷ ns) {t} h e = by-pair (pair_of m a x n) refl e (λ u. table-good (x + 1) u xs ns (omega arith))
+table_good m a [] [] {t} h e = let f : a ≡ t = cc in record { good = none; sum = omega arith }
+table_good m a [] (n ∷ ns) h e = absurd (omega arith)
+table_good m a (x ∷ xs) [] h e = absurd (omega arith)
+table_good m a (x ∷ xs) (n ∷ ns) {t} h e = by_pair (pair_of m a x n) refl e (λ u. table_good (x + 1) u xs ns (omega arith))
   where
-    by-pair : (w : Table) → pair_of m a x n ≡ w → further w (λ u. table_of (x + 1) u xs ns) ≡ Total t
+    by_pair : (w : Table) → pair_of m a x n ≡ w → further w (λ u. table_of (x + 1) u xs ns) ≡ Total t
         → ((u : ℕ) → table_of (x + 1) u xs ns ≡ Total t → Judged (x + 1) u xs ns t) → Judged m a (x ∷ xs) (n ∷ ns) t
-    by-pair (Total u) p e go =
+    by_pair (Total u) p e go =
         let g = good m a x n p in
         let r = go u e in
         record { good = one g.0 r.good; sum = omega (arith, g.1, r.sum) }
-    by-pair (Refused r) p e go = absurd (let z : ◌≡◌ {A = ℕ} 0 1 = cc in omega arith)
+    by_pair (Refused r) p e go = absurd (let z : ◌≡◌ {A = ℕ} 0 1 = cc in omega arith)

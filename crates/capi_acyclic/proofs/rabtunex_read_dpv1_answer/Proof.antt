@@ -2,7 +2,7 @@
 use mathlib.Core.Path.{refl, sym, ◌∙◌}
 use Prim.Native.Nat.{◌≤◌}
 use native.Mathlib.Omega.{arith}
-use Rattle.acyclic.specs.Laws.{answer-small}
+use Rattle.acyclic.specs.Laws.{answer_small}
 use borrow.Author.Rules.{rules}
 use Rattle.capi_acyclic.proofs.rabtunex_read_dpv1_answer.Statement.{statement}
 use Rattle.capi_acyclic.proofs.rabtunex_read_dpv1_answer.Tie as tie
@@ -14,7 +14,7 @@ small : (c : tie.After-known-told) →
 small c =
     let t = c.before in
     let r = t.before.before in
-    answer-small r.before.before.args.bytes.now (sym r.read_answer.ensures ∙ t.reading.given.1)
+    answer_small r.before.before.args.bytes.now (sym r.read_answer.ensures ∙ t.reading.given.1)
 
 read-answer-requires : tie.Need-read-answer-requires
 read-answer-requires c κs = search rules

@@ -2,7 +2,7 @@
 use mathlib.Core.Path.{refl, sym, ◌∙◌}
 use Prim.Native.Nat.{◌≤◌}
 use native.Mathlib.Omega.{arith}
-use Rattle.acyclic.specs.Laws.{call-small}
+use Rattle.acyclic.specs.Laws.{call_small}
 use borrow.Author.Rules.{rules}
 use Rattle.capi_acyclic.proofs.rabtunex_read_dpv1_call.Statement.{statement}
 use Rattle.capi_acyclic.proofs.rabtunex_read_dpv1_call.Tie as tie
@@ -14,7 +14,7 @@ small : (c : tie.After-known-told) →
 small c =
     let t = c.before in
     let r = t.before.before in
-    call-small r.before.before.args.bytes.now (sym r.read-call.ensures ∙ t.reading.given.1)
+    call_small r.before.before.args.bytes.now (sym r.read_call.ensures ∙ t.reading.given.1)
 
 read-call-requires : tie.Need-read-call-requires
 read-call-requires c κs = search rules
@@ -38,12 +38,12 @@ returns : tie.Need-returns
 returns c =
     let k = c.before in
     let t = k.before.before in
-    simp (sym t.before.before.read-call.ensures ∙ t.reading.given.1) (refl, rw (← k.call-four.ensures))
+    simp (sym t.before.before.read_call.ensures ∙ t.reading.given.1) (refl, rw (← k.call-four.ensures))
 
 returns-2 : tie.Need-returns-2
 returns-2 c =
     let t = c.before in
-    simp (sym t.before.before.read-call.ensures ∙ t.reading2.given.1) (refl, refl)
+    simp (sym t.before.before.read_call.ensures ∙ t.reading2.given.1) (refl, refl)
 
 pub rabtunex-read-dpv1-call-spec : {M : Type 1} → statement M
 rabtunex-read-dpv1-call-spec =

@@ -1,6 +1,6 @@
 -- `capi_acyclic::write_case` meets its contract, by what the writer of the case ensures.
 use mathlib.Core.Path.{refl}
-use Rattle.octets.specs.Front.{answerBy, heldBy}
+use Rattle.octets.specs.Front.{answer_by, held_by}
 use borrow.Author.Rules.{rules}
 use Rattle.capi_acyclic.proofs.write_case.Statement.{statement}
 use Rattle.capi_acyclic.proofs.write_case.Tie as tie
@@ -32,7 +32,7 @@ same_length c = search rules
 returns : tie.Need-returns
 returns c =
     let w = c.before.before.before.before in
-    let e = w.write-call.ensures in
+    let e = w.write_call.ensures in
     rw (w.before.before.before.case.given.1, ← e.0) (c.store-count.ensures.0, (e.1, c.store-count.ensures.1))
 
 same-length-2 : tie.Need-same-length-2
@@ -41,11 +41,11 @@ same-length-2 c = search rules
 returns-2 : tie.Need-returns-2
 returns-2 c =
     let w = c.before.before.before.before in
-    let e = w.write-answer.ensures in
+    let e = w.write_answer.ensures in
     rw (w.before.before.before.case2.given.1, ← e.0) (c.store-count2.ensures.0, (e.1, c.store-count2.ensures.1))
 
 returns-3 : tie.Need-returns-3
-unfolding answerBy heldBy
+unfolding answer_by held_by
 returns-3 c = rw c.enum_told.given.1 (refl, (refl, refl))
 
 pub write-case-spec : {M : Type 1} → statement M

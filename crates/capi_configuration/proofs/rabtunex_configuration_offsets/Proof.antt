@@ -1,7 +1,7 @@
 -- `capi_configuration::rabtunex_configuration_offsets` meets its contract: the lists are as `offsets` leaves them, and the
 -- number and the totals follow from what it answers.
 use mathlib.Core.Path.{sym, ap, ◌∙◌}
-use Rattle.capi_configuration.specs.Configuration.{refusalOf}
+use Rattle.capi_configuration.specs.Configuration.{refusal_of}
 use borrow.Author.Rules.{rules}
 use Rattle.capi_configuration.proofs.rabtunex_configuration_offsets.Statement.{
   statement,
@@ -28,7 +28,7 @@ returns c =
     let t = c.before.before in
     let e = t.before.before.before.before.before.before.offsets.ensures in
     let g = sym e.0 ∙ t.reading.given.1 in
-    (sym (ap refusalOf g), (e.1.0, (e.1.1, simp g)))
+    (sym (ap refusal_of g), (e.1.0, (e.1.1, simp g)))
 
 same-length-3 : tie.Need-same-length-3
 same-length-3 c = search rules
@@ -41,7 +41,7 @@ returns-2 c =
     let t = c.before in
     let e = t.before.before.before.before.before.before.offsets.ensures in
     let g = sym e.0 ∙ t.reading2.given.1 in
-    (sym (ap refusalOf g), (e.1.0, (e.1.1, simp g)))
+    (sym (ap refusal_of g), (e.1.0, (e.1.1, simp g)))
 
 pub rabtunex-configuration-offsets-spec : {M : Type 1} → statement M
 rabtunex-configuration-offsets-spec =

@@ -1,5 +1,5 @@
 -- `capi_controller::rabtunex_controller_step` meets its contract.
-use Rattle.capi_controller.specs.ControllerEnd.{refusalIn, stateAfter, storedAfter, endingAfter}
+use Rattle.capi_controller.specs.ControllerEnd.{refusal_in, state_after, stored_after, ending_after}
 use Rattle.protocol.specs.Controller.{Acted, step_of}
 use Rattle.protocol.specs.declared.controller.Settings.{Settings}
 use mathlib.Core.Path.{refl, sym, ap, ◌∙◌}
@@ -42,17 +42,17 @@ returns-2 c =
     let f = t.before.before in
     let p = f.before.before in
     let a = p.before.before.before.before.before.args in
-    let e = s.step.ensures ∙ ap (λ (x : Settings). step_of x a.book.now f.found.given.0.0 a.reply.now a.request.now) t.settings-in.ensures in
+    let e = s.step.ensures ∙ ap (λ (x : Settings). step_of x a.book.now f.found.given.0.0 a.reply.now a.request.now) t.settings_in_lem.ensures in
     let r = c.put-action.ensures in
     rw (sym p.controller-in.ensures ∙ f.found.given.1) (
-      r.0 ∙ ap (λ (w : Acted). refusalIn w.answer) e,
+      r.0 ∙ ap (λ (w : Acted). refusal_in w.answer) e,
       (
-        r.1.0 ∙ ap (λ (w : Acted). stateAfter w.answer a.state.now) e,
+        r.1.0 ∙ ap (λ (w : Acted). state_after w.answer a.state.now) e,
         (
           ap (λ (w : Acted). w.buffer) e,
           (
-            r.1.1.0 ∙ ap (λ (w : Acted). storedAfter w.answer a.stored.now) e,
-            r.1.1.1 ∙ ap (λ (w : Acted). endingAfter w.answer a.ending.now) e,
+            r.1.1.0 ∙ ap (λ (w : Acted). stored_after w.answer a.stored.now) e,
+            r.1.1.1 ∙ ap (λ (w : Acted). ending_after w.answer a.ending.now) e,
           ),
         ),
       ),

@@ -1,6 +1,6 @@
 -- `capi_download::rabtunex_download` meets its contract.
-use Rattle.capi_download.specs.Joined.{refusalIn, stateAfter, endingAfter, sendingsAfter}
-use Rattle.protocol.specs.Download.{Whole, downloadOf}
+use Rattle.capi_download.specs.Joined.{refusal_in, state_after, ending_after, sendings_after}
+use Rattle.protocol.specs.Download.{Whole, download_of}
 use Rattle.protocol.specs.Printer.{lending}
 use Rattle.protocol.specs.declared.controller.Settings.{Settings}
 use mathlib.Core.Path.{refl, sym, ap, ◌∙◌}
@@ -45,12 +45,12 @@ returns-2 c =
     let p = f.before.before in
     let a = p.before.before.before.before.before.before.before.before.args in
     let x = lending f.found.given.0.0 a.lengths.now a.bodies.now a.reply.now in
-    let e = s.run.ensures.0 ∙ ap (λ (k : Settings). downloadOf k a.book.now a.line.now a.not_yet.now a.diagnosis.now x a.request.now) t.settings-in.ensures in
+    let e = s.run.ensures.0 ∙ ap (λ (k : Settings). download_of k a.book.now a.line.now a.not_yet.now a.diagnosis.now x a.request.now) t.settings_in_lem.ensures in
     let r = c.put-downloaded.ensures in
     rw (sym p.printer-in.ensures ∙ f.found.given.1) (
-      r.0 ∙ ap (λ (w : Whole). refusalIn w.answer) e,
+      r.0 ∙ ap (λ (w : Whole). refusal_in w.answer) e,
       (
-        r.1.0 ∙ ap (λ (w : Whole). stateAfter w.answer a.state.now) e,
+        r.1.0 ∙ ap (λ (w : Whole). state_after w.answer a.state.now) e,
         (
           ap (λ (w : Whole). w.slots.lengths) e,
           (
@@ -60,8 +60,8 @@ returns-2 c =
               (
                 ap (λ (w : Whole). w.request) e,
                 (
-                  r.1.1.0 ∙ ap (λ (w : Whole). endingAfter w.answer a.ending.now) e,
-                  r.1.1.1 ∙ ap (λ (w : Whole). sendingsAfter w.answer a.sendings.now) e,
+                  r.1.1.0 ∙ ap (λ (w : Whole). ending_after w.answer a.ending.now) e,
+                  r.1.1.1 ∙ ap (λ (w : Whole). sendings_after w.answer a.sendings.now) e,
                 ),
               ),
             ),

@@ -1,5 +1,5 @@
 -- `capi_printer::rabtunex_printer_step` meets its contract.
-use Rattle.capi_printer.specs.PrinterEnd.{refusalIn, stateAfter, sentAfter}
+use Rattle.capi_printer.specs.PrinterEnd.{refusal_in, state_after, sent_after}
 use Rattle.protocol.specs.Printer.{Stepped}
 use mathlib.Core.Path.{refl, sym, ap, ◌∙◌}
 use borrow.Author.Rules.{rules}
@@ -38,16 +38,16 @@ returns-2 c =
     let e = s.step.ensures in
     let r = c.put-reaction.ensures in
     rw (sym p.printer-in.ensures ∙ f.found.given.1) (
-      r.0 ∙ ap (λ (w : Stepped). refusalIn w.answer) e,
+      r.0 ∙ ap (λ (w : Stepped). refusal_in w.answer) e,
       (
-        r.1.0 ∙ ap (λ (w : Stepped). stateAfter w.answer a.state.now) e,
+        r.1.0 ∙ ap (λ (w : Stepped). state_after w.answer a.state.now) e,
         (
           ap (λ (w : Stepped). w.slots.lengths) e,
           (
             ap (λ (w : Stepped). w.slots.bodies) e,
             (
               ap (λ (w : Stepped). w.buffer) e,
-              r.1.1 ∙ ap (λ (w : Stepped). sentAfter w.answer a.sent.now) e,
+              r.1.1 ∙ ap (λ (w : Stepped). sent_after w.answer a.sent.now) e,
             ),
           ),
         ),

@@ -3,19 +3,19 @@ use mathlib.Core.Path.{◌≡◌, refl, sym, ap, ◌∙◌}
 use mathlib.Core.List.{List}
 use Prim.Native.Nat.{ℕ, ◌+◌, ◌≤◌}
 use native.Mathlib.Omega.{arith}
-use Rattle.function_code.specs.Code.{classOf}
+use Rattle.function_code.specs.Code.{class_of}
 use Rattle.fdl.specs.Reading.{read_of}
-use Rattle.fdl.specs.Laws.{data-inside}
+use Rattle.fdl.specs.Laws.{data_inside}
 use Rattle.fdl.specs.declared.reading.Reading.{Reading}
-use Rattle.capi_telegram.specs.Telegram.{refusalOf, telegramFields, fieldsAfter}
+use Rattle.capi_telegram.specs.Telegram.{refusal_of, telegram_fields, fields_after}
 use borrow.Author.Rules.{rules}
 use Rattle.capi_telegram.proofs.rabtunex_read_telegram.Statement.{statement}
 use Rattle.capi_telegram.proofs.rabtunex_read_telegram.Tie as tie
 
 -- the answer and the fields, by what is read
-answered : (s before : List ℕ) {after : List ℕ} (r : Reading) → read_of s ≡ r → after ≡ fieldsAfter r before
-    → (refusalOf r ≡ refusalOf (read_of s)) × (after ≡ fieldsAfter (read_of s) before)
-answered s before r e f = (sym (ap refusalOf e), f ∙ sym (ap (λ (x : Reading). fieldsAfter x before) e))
+answered : (s before : List ℕ) {after : List ℕ} (r : Reading) → read_of s ≡ r → after ≡ fields_after r before
+    → (refusal_of r ≡ refusal_of (read_of s)) × (after ≡ fields_after (read_of s) before)
+answered s before r e f = (sym (ap refusal_of e), f ∙ sym (ap (λ (x : Reading). fields_after x before) e))
 
 -- start and length of the user data are bytes
 inside : (c : tie.After-format-number) →
@@ -24,7 +24,7 @@ inside : (c : tie.After-format-number) →
 inside c =
     let t = c.before.before in
     let r = t.before.before in
-    let i = data-inside classOf r.before.before.args.bytes.now (sym r.read.ensures ∙ t.reading2.given.1) in
+    let i = data_inside class_of r.before.before.args.bytes.now (sym r.read.ensures ∙ t.reading2.given.1) in
     omega (arith, i.ends, i.most)
 
 read-requires : tie.Need-read-requires
@@ -77,7 +77,7 @@ returns-3 c =
     let g = t.reading2.given.0 in
     answered a.bytes.now a.fields.now _ (sym r.read.ensures ∙ t.reading2.given.1)
     (c.put-fields.ensures
-    ∙ ap (λ (x : ℕ). telegramFields x g.1.0 g.1.1.0 g.1.1.1.0) n.format-number.ensures)
+    ∙ ap (λ (x : ℕ). telegram_fields x g.1.0 g.1.1.0 g.1.1.1.0) n.format-number.ensures)
 
 returns-4 : tie.Need-returns-4
 returns-4 c =

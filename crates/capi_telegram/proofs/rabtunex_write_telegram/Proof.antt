@@ -21,7 +21,7 @@ same_length c = search rules
 returns : tie.Need-returns
 returns c =
     let w = c.before.before.before.before in
-    let e = rw w.before.before.kind-of.ensures at w.write-kind.ensures in
+    let e = rw w.before.before.kind_of_lem.ensures at w.write-kind.ensures in
     rw (← e.0) (c.store-count.ensures.0, (e.1, c.store-count.ensures.1))
 
 pub rabtunex-write-telegram-spec : {M : Type 1} → statement M

@@ -4,10 +4,10 @@ use mathlib.Core.List.{List, []}
 use Prim.Native.Nat.{ℕ}
 use lib.ListN.{length, get_or}
 use borrow.Author.Tests.{eq-eqb, ne_eqb}
-use Rattle.octets.specs.Front.{answerBy, heldBy, refused}
+use Rattle.octets.specs.Front.{answer_by, held_by, refused}
 use Rattle.octets.specs.declared.Written.{Written}
-use Rattle.fdl.specs.Writing.{tokenBytes, confirmationBytes}
-use Rattle.capi_telegram.specs.Telegram.{verdictAt, bytes_at}
+use Rattle.fdl.specs.Writing.{token_bytes, confirmation_bytes}
+use Rattle.capi_telegram.specs.Telegram.{verdict_at, bytes_at}
 use Rattle.fields.specs.declared.kinds.Kind.{Kind}
 use borrow.Author.Rules.{rules}
 use Rattle.capi_telegram.proofs.write_kind.Statement.{statement}
@@ -16,7 +16,7 @@ use Rattle.capi_telegram.proofs.write_kind.Tie as tie
 -- what is answered and held, by the kind
 abbrev Outcome : (fields user out : List ℕ) → Written → (after : List ℕ) → Kind → Type 0
 Outcome fields user out r after k =
-    (r ≡ answerBy (verdictAt k fields user) (bytes_at k fields user) (length out)) × (after ≡ heldBy (verdictAt k fields user) (bytes_at k fields user) out)
+    (r ≡ answer_by (verdict_at k fields user) (bytes_at k fields user) (length out)) × (after ≡ held_by (verdict_at k fields user) (bytes_at k fields user) out)
 
 by_kind : (fields user out : List ℕ) (r : Written) (after : List ℕ) {k l : Kind} → k ≡ l → Outcome fields user out r after l → Outcome fields user out r after k
 by_kind fields user out r after e o = subst (Outcome fields user out r after) (sym e) o
@@ -28,7 +28,7 @@ returns : tie.Need-returns
 returns c =
     let t = c.before in
     let a = t.before.before.before.before.args in
-    by_kind a.fields.now a.user.now a.out.now _ _ t.enum_told.given.1 (simp (ne_eqb _ _ c.if1.true) (refused 12 confirmationBytes a.out.now))
+    by_kind a.fields.now a.user.now a.out.now _ _ t.enum_told.given.1 (simp (ne_eqb _ _ c.if1.true) (refused 12 confirmation_bytes a.out.now))
 
 write-confirmation-requires : tie.Need-write-confirmation-requires
 write-confirmation-requires c κs = search rules
@@ -41,7 +41,7 @@ returns-2 c =
     let t = c.before in
     let a = t.before.before.before.before.args in
     by_kind a.fields.now a.user.now a.out.now _ _ t.enum-told2.given.1
-    (simp (ne_eqb _ _ c.if2.true) (refused 12 (tokenBytes (get_or a.fields.now 1 0) (get_or a.fields.now 2 0)) a.out.now))
+    (simp (ne_eqb _ _ c.if2.true) (refused 12 (token_bytes (get_or a.fields.now 1 0) (get_or a.fields.now 2 0)) a.out.now))
 
 element-copy-out-write-token : tie.Need-element-copy-out-write-token
 element-copy-out-write-token c = search rules

@@ -9,62 +9,62 @@ use Rattle.octets.specs.Choice.{never}
 use Rattle.octets.specs.Bytes.{Bytes}
 use Rattle.octets.specs.Part.{part_of}
 use Rattle.octets.specs.Front.{Verdict, fine, fault}
-use Rattle.octets.specs.Fixed.{fault-fine}
+use Rattle.octets.specs.Fixed.{fault_fine}
 use Rattle.configuration.specs.Walk.{Walk, end, bad, more, next_of, walk_of}
-use Rattle.configuration.specs.Writing.{moduleVerdict, moduleBytes}
-use Rattle.configuration.specs.Contents.{endsWell, walkBytes, and_then, walkVerdict, Whole}
+use Rattle.configuration.specs.Writing.{module_verdict, module_bytes}
+use Rattle.configuration.specs.Contents.{ends_well, walk_bytes, and_then, walk_verdict, Whole}
 use Rattle.configuration.specs.Lemmas.Steps.{stands, ends, breaks}
 use Rattle.configuration.specs.Lemmas.One.{back, again}
 use Rattle.configuration.specs.declared.walk.Step.{Step}
 use Rattle.configuration.specs.declared.walk.Step.TheVariants as step
 
 -- two verdicts that are fine together are fine
-both-fine : (a b : Verdict) → and_then a b ≡ fine → (a ≡ fine) × (b ≡ fine)
-both-fine fine b e = (refl, e)
-both-fine (fault k) b e = absurd (fault-fine e)
+both_fine : (a b : Verdict) → and_then a b ≡ fine → (a ≡ fine) × (b ≡ fine)
+both_fine fine b e = (refl, e)
+both_fine (fault k) b e = absurd (fault_fine e)
 
-pub all_back : (w : Walk) → walkVerdict w ≡ fine → walk_of (walkBytes w) 0 ≡ w
+pub all_back : (w : Walk) → walk_verdict w ≡ fine → walk_of (walk_bytes w) 0 ≡ w
 unfolding walk_of
 all_back end e = refl
-all_back (bad r) e = absurd (fault-fine e)
+all_back (bad r) e = absurd (fault_fine e)
 all_back (more m vendor w) e =
-    let f = both-fine (moduleVerdict m vendor) (walkVerdict w) e in
-    let t : List ℕ = moduleBytes m vendor in
-    let b = back m vendor [] (walkBytes w) f.0 in
+    let f = both_fine (module_verdict m vendor) (walk_verdict w) e in
+    let t : List ℕ = module_bytes m vendor in
+    let b = back m vendor [] (walk_bytes w) f.0 in
     let next : 0 + length t ≡ length t = zero-add (length t) in
-    (stands (t ++ walkBytes w) 0 b.fields).walk
+    (stands (t ++ walk_bytes w) 0 b.fields).walk
     ∙ ap₂ (more m) b.part
-    (ap (λ (k : ℕ). walk_of (drop k (t ++ walkBytes w)) 0) next
-    ∙ ap (λ (l : List ℕ). walk_of l 0) (drop-append_seam t (walkBytes w))
+    (ap (λ (k : ℕ). walk_of (drop k (t ++ walk_bytes w)) 0) next
+    ∙ ap (λ (l : List ℕ). walk_of l 0) (drop-append_seam t (walk_bytes w))
     ∙ all_back w f.1)
 
 module _ (s : List ℕ) (bytes : Bytes s) where
   Goes : (at : ℕ) → Type 0
-  Goes at = at ≤ length s → endsWell (walk_of (drop at s) 0) ≡ true → Whole (drop at s)
+  Goes at = at ≤ length s → ends_well (walk_of (drop at s) 0) ≡ true → Whole (drop at s)
 
   ended : (at : ℕ) → at ≡ length s → Whole (drop at s)
   unfolding walk_of
   ended at e = rw (e, drop-length s) (record { taken = refl; same = refl })
 
-  by-step : (f at : ℕ) → ((k : ℕ) → length s - k ≤ f → Goes k) → length s - at ≤ suc f → at ≤ length s → (x : Step) → next_of s at ≡ x → endsWell (walk_of (drop at s) 0) ≡ true
+  by_step : (f at : ℕ) → ((k : ℕ) → length s - k ≤ f → Goes k) → length s - at ≤ suc f → at ≤ length s → (x : Step) → next_of s at ≡ x → ends_well (walk_of (drop at s) 0) ≡ true
       → Whole (drop at s)
   unfolding Goes
-  by-step f at go room h (step.Module m start len next) e w =
+  by_step f at go room h (step.Module m start len next) e w =
       let k = stands s at e in
       let a = again s bytes at e in
-      let v = go next.at (omega (arith, k.further)) k.inside (sym (ap endsWell k.walk) ∙ w) in
+      let v = go next.at (omega (arith, k.further)) k.inside (sym (ap ends_well k.walk) ∙ w) in
       record {
-        taken = ap walkVerdict k.walk ∙ ap₂ and_then a.taken v.taken;
-        same = ap walkBytes k.walk ∙ ap (λ (l : List ℕ). moduleBytes m (part_of s start len) ++ l) v.same ∙ sym a.same;
+        taken = ap walk_verdict k.walk ∙ ap₂ and_then a.taken v.taken;
+        same = ap walk_bytes k.walk ∙ ap (λ (l : List ℕ). module_bytes m (part_of s start len) ++ l) v.same ∙ sym a.same;
       }
-  by-step f at go room h step.End e w = ended at (ends s at e).0
-  by-step f at go room h (step.Refused r) e w = absurd (never (sym (ap endsWell (breaks s at e h)) ∙ w))
+  by_step f at go room h step.End e w = ended at (ends s at e).0
+  by_step f at go room h (step.Refused r) e w = absurd (never (sym (ap ends_well (breaks s at e h)) ∙ w))
 
   goes : (f at : ℕ) → length s - at ≤ f → Goes at
   unfolding Goes
   goes zero at room h w = ended at (omega arith)
-  goes (suc f) at room h w = by-step f at (goes f) room h (next_of s at) refl w
+  goes (suc f) at room h w = by_step f at (goes f) room h (next_of s at) refl w
 
-pub all-again : (s : List ℕ) → Bytes s → endsWell (walk_of s 0) ≡ true → Whole s
+pub all_again : (s : List ℕ) → Bytes s → ends_well (walk_of s 0) ≡ true → Whole s
 unfolding Goes
-all-again s bytes w = goes s bytes (length s) 0 (omega arith) (omega arith) w
+all_again s bytes w = goes s bytes (length s) 0 (omega arith) (omega arith) w

@@ -4,7 +4,7 @@ use native.Mathlib.Nat.{add-zero}
 use borrow.Author.Tests.{lt-ltb, le-ltb, eq-eqb, ne_eqb}
 use borrow.Author.Rules.{rules}
 use Rattle.configuration.specs.Walk.{step_of, next_of}
-use Rattle.configuration_walk.proofs.Places.{is_special, is-general}
+use Rattle.configuration_walk.proofs.Places.{is_special, is_general}
 use Rattle.configuration_walk.proofs.next.Statement.{statement}
 use Rattle.configuration_walk.proofs.next.Tie as tie
 
@@ -46,7 +46,7 @@ returns-4 c =
     let t = c.before in
     let e = t.before.before in
     let b = e.before.before.before in
-    simp (le-ltb _ _ e.before.if1.false, ne_eqb _ _ e.if2.false, c.general.ensures, is-general b.args.bytes.now b.args.position.at t.if3.false, add-zero)
+    simp (le-ltb _ _ e.before.if1.false, ne_eqb _ _ e.if2.false, c.general.ensures, is_general b.args.bytes.now b.args.position.at t.if3.false, add-zero)
 
 pub next-spec : {M : Type 1} → statement M
 next-spec =

@@ -1,7 +1,7 @@
 -- `configuration_walk::special` meets its contract. The definition has the same tests, by the bytes from the place on.
 use borrow.Author.Tests.{lt-ltb, le-ltb, eq-eqb, ne_eqb}
 use borrow.Author.Rules.{rules}
-use Rattle.configuration.specs.Fields.{specialOf}
+use Rattle.configuration.specs.Fields.{special_of}
 use Rattle.configuration_walk.proofs.Places.{special-at}
 use Rattle.configuration_walk.proofs.special.Statement.{statement}
 use Rattle.configuration_walk.proofs.special.Tie as tie
@@ -65,7 +65,7 @@ add-t19 : tie.Need-overflow-add-t19
 add-t19 c = search rules
 
 returns-3 : tie.Need-returns-3
-unfolding specialOf
+unfolding special_of
 returns-3 c =
     let e = c.before.before in
     let b = e.before.before.before.before in

@@ -1,7 +1,7 @@
 -- `controller::step` meets its contract: what is refused changes nothing; else the request that comes next is written.
 use mathlib.Core.Path.{◌≡◌, ap, ◌∙◌, subst}
 use Rattle.protocol.specs.Controller.{Move, acted, step_of}
-use Rattle.controller_state.specs.Accepted.{settings-in, book-in}
+use Rattle.controller_state.specs.Accepted.{settings_in_lem, book_in}
 use Rattle.controller_moves.specs.Next.{Decides}
 use Rattle.controller_moves.specs.declared.Decision.{Decision}
 use borrow.Author.Rules.{rules}
@@ -31,7 +31,7 @@ act-requires c κs =
     let d = k.before.before in
     let a = (entry d).args in
     let p = decided d k.decision2.given.1 in
-    (settings-in a.settings a.book.now a.controller p.0, book-in a.settings a.book.now a.controller p.0, p.1.counted)
+    (settings_in_lem a.settings a.book.now a.controller p.0, book_in a.settings a.book.now a.controller p.0, p.1.counted)
 
 returns : tie.Need-returns
 unfolding step_of

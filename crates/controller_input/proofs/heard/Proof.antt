@@ -6,11 +6,11 @@ use Rattle.octets.specs.Choice.{pick}
 use Rattle.octets.specs.Part.{part_of}
 use Rattle.octets.specs.declared.Mode.TheVariants as mode
 use Rattle.fdl.specs.declared.reading.Reading.{Reading}
-use Rattle.access.specs.Route.{routeOf}
-use Rattle.service.specs.Reading.{serviceIn, read_of}
-use Rattle.protocol.specs.Controller.{other, gotBy}
-use Rattle.controller_input.specs.Meaning.{gotOfRoute}
-use Rattle.controller_input.proofs.Routed.{route-got}
+use Rattle.access.specs.Route.{route_of}
+use Rattle.service.specs.Reading.{service_in, read_of}
+use Rattle.protocol.specs.Controller.{other, got_by}
+use Rattle.controller_input.specs.Meaning.{got_of_route}
+use Rattle.controller_input.proofs.Routed.{route_got}
 use borrow.Author.Rules.{rules}
 use Rattle.controller_input.proofs.heard.Statement.{statement}
 use Rattle.controller_input.proofs.heard.Tie as tie
@@ -35,12 +35,12 @@ returns-2 c =
     let b = i.before.before.before in
     let a = b.args in
     let s = a.reply.now in
-    let route = routeOf a.header in
+    let route = route_of a.header in
     let own = sym i.before.is-printers.ensures ∙ not-false _ i.if1.false in
-    c.routed.ensures ∙ ap (gotOfRoute route) k.part.ensures
-    ∙ route-got route a.format a.header a.start (part_of s a.start a.len) mode.Dpv1
-    ∙ ap (λ (t : Reading). gotBy (serviceIn s mode.Dpv1 t)) b.requires.1
-    ∙ sym (ap (λ (t : Bool). pick t (gotBy (read_of s mode.Dpv1)) other) own)
+    c.routed.ensures ∙ ap (got_of_route route) k.part.ensures
+    ∙ route_got route a.format a.header a.start (part_of s a.start a.len) mode.Dpv1
+    ∙ ap (λ (t : Reading). got_by (service_in s mode.Dpv1 t)) b.requires.1
+    ∙ sym (ap (λ (t : Bool). pick t (got_by (read_of s mode.Dpv1)) other) own)
 
 pub heard-spec : {M : Type 1} → statement M
 heard-spec =

@@ -3,7 +3,7 @@ use mathlib.Core.Path.{◌≡◌, sym, ap, ◌∙◌}
 use Rattle.fdl.specs.Reading.{read_of}
 use Rattle.fdl.specs.Lemmas.Classed.{Says, said}
 use Rattle.fdl.specs.declared.reading.Classed.{Classed}
-use Rattle.protocol.specs.Controller.{gotFrom, gotIn}
+use Rattle.protocol.specs.Controller.{got_from, got_in}
 use borrow.Author.Rules.{rules}
 use Rattle.controller_input.proofs.take.Statement.{statement}
 use Rattle.controller_input.proofs.take.Tie as tie
@@ -37,23 +37,23 @@ enum-told-3 : tie.Need-enum-told-3
 enum-told-3 c = search rules
 
 returns : tie.Need-returns
-unfolding gotIn
+unfolding got_in
 returns c = simp (found c.before.before c.enum_told.given.1)
 
 returns-2 : tie.Need-returns-2
-unfolding gotIn
+unfolding got_in
 returns-2 c = simp (found c.before.before c.enum-told2.given.1)
 
 returns-3 : tie.Need-returns-3
-unfolding gotIn
+unfolding got_in
 returns-3 c =
     let k = c.before.before in
     let r = k.before.before in
     let a = (entry r).args in
-    c.heard.ensures ∙ sym (ap (gotFrom a.settings a.reply.now) (found r k.reading.given.1).0)
+    c.heard.ensures ∙ sym (ap (got_from a.settings a.reply.now) (found r k.reading.given.1).0)
 
 returns-4 : tie.Need-returns-4
-unfolding gotIn
+unfolding got_in
 returns-4 c = simp (found c.before.before c.enum-told3.given.1)
 
 pub take_spec : {M : Type 1} → statement M

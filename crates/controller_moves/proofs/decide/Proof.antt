@@ -1,8 +1,8 @@
 -- `controller_moves::decide` meets its contract: what is judged is the verdict, and where it is fine the move is the one defined.
 use mathlib.Core.Path.{◌≡◌, sym, ap, ◌∙◌}
-use Rattle.book.specs.Contents.{templatesOf}
-use Rattle.protocol.specs.Check.{verdictIn}
-use Rattle.protocol.specs.Controller.{moveBy, move_of, verdictOf}
+use Rattle.book.specs.Contents.{templates_of}
+use Rattle.protocol.specs.Check.{verdict_in}
+use Rattle.protocol.specs.Controller.{move_by, move_of, verdict_of}
 use Rattle.protocol.specs.declared.check.Check.{Check}
 use borrow.Author.Rules.{rules}
 use Rattle.controller_moves.proofs.decide.Statement.{statement}
@@ -12,8 +12,8 @@ abbrev entry : tie.After-judge → tie.Start
 entry c = c.before.before.before
 
 -- the verdict, by what was judged
-verdict : (c : tie.After-judge) {k : Check} → c.judge.result ≡ k → let a = (entry c).args in verdictOf a.settings a.book.now a.controller ≡ verdictIn k
-verdict c t = sym c.judge.ensures ∙ ap verdictIn t
+verdict : (c : tie.After-judge) {k : Check} → c.judge.result ≡ k → let a = (entry c).args in verdict_of a.settings a.book.now a.controller ≡ verdict_in k
+verdict c t = sym c.judge.ensures ∙ ap verdict_in t
 
 judge-requires : tie.Need-judge-requires
 judge-requires c κs = search rules
@@ -42,7 +42,7 @@ returns-2 c =
     let a = (entry j).args in
     let m = c.move-by.ensures in (
       verdict j t.enum_told.given.1,
-      record { move = m.move ∙ ap (moveBy a.settings (templatesOf a.book.now) a.controller) k.take.ensures; counted = m.counted },
+      record { move = m.move ∙ ap (move_by a.settings (templates_of a.book.now) a.controller) k.take.ensures; counted = m.counted },
     )
 
 pub decide-spec : {M : Type 1} → statement M

@@ -5,12 +5,12 @@ use native.Mathlib.Omega.{arith}
 use Rattle.std.proofs.Math.ListN.{length, get_or}
 use borrow.Author.Tests.{le-ltb, le-leb, ne_eqb}
 use Rattle.octets.specs.Bytes.{Bytes}
-use Rattle.octets.specs.Elements.{part-elements}
+use Rattle.octets.specs.Elements.{part_elements}
 use Rattle.octets.specs.Front.{fine}
 use Rattle.octets.specs.Part.{part_of}
-use Rattle.diagnosis.specs.Block.{kindNumber}
+use Rattle.diagnosis.specs.Block.{kind_number}
 use Rattle.diagnosis.specs.Walk.{fields_of, behind}
-use Rattle.diagnosis.specs.Writing.{head_of, sizedBytes, sizedVerdict, channelBytes, channelVerdict}
+use Rattle.diagnosis.specs.Writing.{head_of, sized_bytes, sized_verdict, channel_bytes, channel_verdict}
 use Rattle.diagnosis.specs.Lemmas.Found.{Within, Coded}
 use Rattle.diagnosis.specs.declared.block.Kind.{Kind}
 use Rattle.diagnosis.specs.declared.block.Kind.TheVariants as kind
@@ -36,14 +36,14 @@ module _ (s : List ℕ) (at len : ℕ) (w : Within (length s - at) len) where
       let room : len - 1 ≤ length (drop (at + 1) s) = rw length-drop (omega arith) in
       ap length part ∙ length-take-le (len - 1) (drop (at + 1) s) room
 
-  pub sized-taken : sizedVerdict (part_of s (at + 1) (len - 1)) ≡ fine
-  unfolding sizedVerdict
-  sized-taken =
+  pub sized_taken : sized_verdict (part_of s (at + 1) (len - 1)) ≡ fine
+  unfolding sized_verdict
+  sized_taken =
       let low : 2 ≤ len - 1 + 1 = omega arith in
       let high : len - 1 + 1 ≤ 63 = omega arith in
       rw part_length (simp (le-ltb _ _ low, le-ltb _ _ high))
 
-  pub sized_same : (k : Kind) → head_of k len ≡ get_or s at 0 → sizedBytes k (part_of s (at + 1) (len - 1)) ≡ take (at + len - at) (drop at s)
+  pub sized_same : (k : Kind) → head_of k len ≡ get_or s at 0 → sized_bytes k (part_of s (at + 1) (len - 1)) ≡ take (at + len - at) (drop at s)
   sized_same k e =
       let head : head_of k (length (part_of s (at + 1) (len - 1)) + 1) ≡ get_or s at 0 = omega (arith, part_length) in
       let here : at < length s = omega arith in
@@ -60,9 +60,9 @@ module _ (s : List ℕ) (b : Bytes s) (at : ℕ) (k : Coded (get_or s (at + 1) 0
   abbrev pub fields_at : Channel
   fields_at = fields_of (get_or s at 0) (get_or s (at + 1) 0) (get_or s (at + 2) 0)
 
-  pub channel-taken : channelVerdict fields_at ≡ fine
-  unfolding channelVerdict
-  channel-taken =
+  pub channel_taken : channel_verdict fields_at ≡ fine
+  unfolding channel_verdict
+  channel_taken =
       let first : get_or s at 0 % 64 ≤ 63 = omega arith in
       let direction : get_or s (at + 1) 0 / 64 ≤ 3 = omega (arith, b (at + 1)) in
       let number : get_or s (at + 1) 0 % 64 ≤ 63 = omega arith in
@@ -71,12 +71,12 @@ module _ (s : List ℕ) (b : Bytes s) (at : ℕ) (k : Coded (get_or s (at + 1) 0
       simp
       (le-ltb _ _ first, le-leb _ _ direction, le-leb _ _ number, ne_eqb _ _ k.direction, le-leb _ _ type, le-leb _ _ error, k.codes)
 
-  pub channel-same : get_or s at 0 / 64 ≡ kindNumber kind.Channel → channelBytes fields_at ≡ take (at + 3 - at) (drop at s)
-  channel-same e =
+  pub channel_same : get_or s at 0 / 64 ≡ kind_number kind.Channel → channel_bytes fields_at ≡ take (at + 3 - at) (drop at s)
+  channel_same e =
       let first : head_of kind.Channel (get_or s at 0 % 64) ≡ get_or s at 0 = omega arith in
       let second : get_or s (at + 1) 0 / 64 * 64 + get_or s (at + 1) 0 % 64 ≡ get_or s (suc at) 0 =
       div-add-mod' (get_or s (at + 1) 0) 64 ∙ ap (λ (i : ℕ). get_or s i 0) (add-one at) in
       let third : get_or s (at + 2) 0 / 32 * 32 + get_or s (at + 2) 0 % 32 ≡ get_or s (suc (suc at)) 0 =
       div-add-mod' (get_or s (at + 2) 0) 32 ∙ ap (λ (i : ℕ). get_or s i 0) (omega arith) in
       let whole : at + 3 ≤ length s = omega (arith, k.whole) in
-      rw (first, second, third) (sym (part-elements 3 at s whole) ∙ reach s at 3)
+      rw (first, second, third) (sym (part_elements 3 at s whole) ∙ reach s at 3)

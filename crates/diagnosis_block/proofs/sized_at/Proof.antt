@@ -1,7 +1,7 @@
 -- `diagnosis_block::sized_at` meets its contract. The definition has the same tests in the same order.
 use borrow.Author.Tests.{lt-ltb, le-ltb}
 use borrow.Author.Rules.{rules}
-use Rattle.diagnosis.specs.Block.{sizedOf}
+use Rattle.diagnosis.specs.Block.{sized_of}
 use Rattle.diagnosis_block.proofs.sized_at.Statement.{statement}
 use Rattle.diagnosis_block.proofs.sized_at.Tie as tie
 
@@ -12,18 +12,18 @@ cast-len : tie.Need-overflow-cast-len
 cast-len c = search rules
 
 returns : tie.Need-returns
-unfolding sizedOf
+unfolding sized_of
 returns c = simp (lt-ltb _ _ c.if1.true)
 
 sub-if2 : tie.Need-overflow-sub-if2
 sub-if2 c = search rules
 
 returns-2 : tie.Need-returns-2
-unfolding sizedOf
+unfolding sized_of
 returns-2 c = simp (le-ltb _ _ c.before.if1.false, lt-ltb _ _ c.if2.true)
 
 returns-3 : tie.Need-returns-3
-unfolding sizedOf
+unfolding sized_of
 returns-3 c = simp (le-ltb _ _ c.before.if1.false, le-ltb _ _ c.if2.false)
 
 pub sized-at-spec : {M : Type 1} → statement M

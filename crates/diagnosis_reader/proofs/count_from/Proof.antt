@@ -6,16 +6,16 @@ use native.Mathlib.Omega.{arith}
 use lib.ListN.{length, drop}
 use borrow.Author.Rules.{rules}
 use Rattle.diagnosis.specs.Block.{found_at}
-use Rattle.diagnosis.specs.Reading.{blocksIn, counted, count_of}
-use Rattle.diagnosis.specs.Lemmas.Found.{Within, within-at}
-use Rattle.diagnosis.specs.Lemmas.Blocks.{blocks_more, blocks-bad, blocks_end}
+use Rattle.diagnosis.specs.Reading.{blocks_in, counted, count_of}
+use Rattle.diagnosis.specs.Lemmas.Found.{Within, within_at}
+use Rattle.diagnosis.specs.Lemmas.Blocks.{blocks_more, blocks_bad, blocks_end}
 use Rattle.diagnosis.specs.declared.block.Found.TheVariants.{Is}
 use Rattle.diagnosis_reader.proofs.count_from.Statement.{statement}
 use Rattle.diagnosis_reader.proofs.count_from.Tie as tie
 
 abbrev invariant-loop : tie.invariant-loop
 invariant-loop s from at₀ blocks₀ at blocks =
-    (at ≤ length s) × (blocks ≤ at) × (counted blocks (blocksIn (drop at s) 0) ≡ count_of (drop from s))
+    (at ≤ length s) × (blocks ≤ at) × (counted blocks (blocks_in (drop at s) 0) ≡ count_of (drop from s))
 
 abbrev decreases-loop : tie.decreases-loop
 decreases-loop s from at₀ blocks₀ at blocks = length s - at
@@ -25,7 +25,7 @@ block :
     (c : tie.After-known-told invariant-loop decreases-loop) →
     let l = c.before.before.before.before.before in
     found_at l.before.before.args.s.now l.loop.at ≡ Is c.before.found.given.0.0
-block c = sym c.before.before.before.found-at.ensures ∙ c.before.found.given.1
+block c = sym c.before.before.before.found_at_lem.ensures ∙ c.before.found.given.1
 
 inside :
     (c : tie.After-known-told invariant-loop decreases-loop) →
@@ -33,7 +33,7 @@ inside :
     Within (length l.before.before.args.s.now - l.loop.at) c.before.found.given.0.0.len
 inside c =
     let l = c.before.before.before.before.before in
-    within-at l.before.before.args.s.now l.loop.at (block c)
+    within_at l.before.before.args.s.now l.loop.at (block c)
 
 loop-holds : tie.Need-loop-init invariant-loop decreases-loop
 loop-holds c = (c.before.requires, omega arith, refl)
@@ -69,7 +69,7 @@ returns : tie.Need-returns invariant-loop decreases-loop
 returns c =
     let f = c.before.before.before in
     let l = f.before.before in
-    sym (ap (counted l.loop.blocks) (blocks-bad _ l.loop.at f.before.loop-test.true (sym f.found-at.ensures ∙ c.before.found2.given.1))) ∙ l.loop.invariant.2
+    sym (ap (counted l.loop.blocks) (blocks_bad _ l.loop.at f.before.loop-test.true (sym f.found_at_lem.ensures ∙ c.before.found2.given.1))) ∙ l.loop.invariant.2
 
 returns-2 : tie.Need-returns-2 invariant-loop decreases-loop
 returns-2 c =

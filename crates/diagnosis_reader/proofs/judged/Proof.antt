@@ -5,7 +5,7 @@ use lib.ListN.{length, drop, length-drop}
 use lib.Dec.{ltb}
 use borrow.Author.Tests.{lt-ltb, le-ltb, not-true, not-false}
 use borrow.Author.Rules.{rules}
-use Rattle.diagnosis.specs.Reading.{goodStatus1, goodStatus2, goodStatus3, goodMaster, judge}
+use Rattle.diagnosis.specs.Reading.{good_status1, good_status2, good_status3, good_master, judge}
 use Rattle.diagnosis_reader.proofs.judged.Statement.{statement}
 use Rattle.diagnosis_reader.proofs.judged.Tie as tie
 
@@ -13,16 +13,16 @@ use Rattle.diagnosis_reader.proofs.judged.Tie as tie
 short : (c : tie.Else1) → ltb 238 (length (drop c.before.before.args.from c.before.before.args.s.now)) ≡ false
 short c = simp length-drop (le-ltb _ _ c.if1.false)
 
-first : (c : tie.Else2) → goodStatus1 c.before.before.before.before.args.header.status1 ≡ true
+first : (c : tie.Else2) → good_status1 c.before.before.before.before.args.header.status1 ≡ true
 first c = sym c.before.good-status1.ensures ∙ not-false _ c.if2.false
 
-second : (c : tie.Else3) → goodStatus2 c.before.before.before.before.before.before.args.header.status2 ≡ true
+second : (c : tie.Else3) → good_status2 c.before.before.before.before.before.before.args.header.status2 ≡ true
 second c = sym c.before.good-status2.ensures ∙ not-false _ c.if3.false
 
-third : (c : tie.Else4) → goodStatus3 c.before.before.before.before.before.before.before.before.args.header.status3 ≡ true
+third : (c : tie.Else4) → good_status3 c.before.before.before.before.before.before.before.before.args.header.status3 ≡ true
 third c = sym c.before.good-status3.ensures ∙ not-false _ c.if4.false
 
-master : (c : tie.Else5) → goodMaster c.before.before.before.before.before.before.before.before.before.before.args.header.master ≡ true
+master : (c : tie.Else5) → good_master c.before.before.before.before.before.before.before.before.before.before.args.header.master ≡ true
 master c = sym c.before.good-master.ensures ∙ not-false _ c.if5.false
 
 sub-if1 : tie.Need-overflow-sub-if1

@@ -5,12 +5,12 @@ use native.Mathlib.Omega.{arith}
 use lib.ListN.{length, take, drop, length-take, length-drop}
 use borrow.Author.Rules.{rules}
 use Rattle.diagnosis.specs.Walk.{behind}
-use Rattle.diagnosis.specs.Lemmas.Found.{Within, within-at, three-at}
+use Rattle.diagnosis.specs.Lemmas.Found.{Within, within_at, three_at}
 use Rattle.diagnosis_walk.proofs.block_at.Statement.{statement}
 use Rattle.diagnosis_walk.proofs.block_at.Tie as tie
 
 inside : (c : tie.Start) → Within (length c.args.s.now - c.args.at) c.args.extent.len
-inside c = within-at c.args.s.now c.args.at c.requires.1
+inside c = within_at c.args.s.now c.args.at c.requires.1
 
 -- the map that is lent: the bytes behind the header, at most 62
 lent :
@@ -76,7 +76,7 @@ enum-told-3 c = search rules
 fields-at-requires : tie.Need-fields-at-requires
 fields-at-requires c κs =
     let b = c.before.before.before in
-    omega (arith, inside b, three-at b.args.s.now b.args.at b.requires.1 c.enum-told3.given.1)
+    omega (arith, inside b, three_at b.args.s.now b.args.at b.requires.1 c.enum-told3.given.1)
 
 returns : tie.Need-returns
 returns c = simp c.enum_told.given.1

@@ -7,7 +7,7 @@ use borrow.Author.Tests.{lt-ltb, le-ltb, eq-eqb, ne_eqb}
 use borrow.Author.Rules.{rules}
 use Rattle.diagnosis.specs.Block.{found_at}
 use Rattle.diagnosis.specs.Walk.{next_of}
-use Rattle.diagnosis.specs.Lemmas.Found.{within-at}
+use Rattle.diagnosis.specs.Lemmas.Found.{within_at}
 use Rattle.diagnosis.specs.declared.block.Found.TheVariants.{Is}
 use Rattle.diagnosis_walk.proofs.next.Statement.{statement}
 use Rattle.diagnosis_walk.proofs.next.Tie as tie
@@ -17,7 +17,7 @@ block :
     (c : tie.After-found2) →
     let a = c.before.before.before.before.before.before.before.args in
     found_at a.bytes.now a.position.at ≡ Is c.found2.given.0.0
-block c = sym c.before.before.found-at.ensures ∙ c.found2.given.1
+block c = sym c.before.before.found_at_lem.ensures ∙ c.found2.given.1
 
 -- bytes are left where the end is not reached
 some :
@@ -57,7 +57,7 @@ add-t13 : tie.Need-overflow-add-t13
 add-t13 c =
     let f = c.before.before.before in
     let a = f.before.before.before.before.before.before.before.args in
-    omega (arith, within-at a.bytes.now a.position.at (block f))
+    omega (arith, within_at a.bytes.now a.position.at (block f))
 
 returns-4 : tie.Need-returns-4
 unfolding next_of
@@ -65,7 +65,7 @@ returns-4 c =
     let f = c.before.before.before in
     let e = f.before in
     simp
-    (le-ltb _ _ e.before.before.if1.false, le-ltb _ _ e.before.if2.false, ne_eqb _ _ (some e), sym f.found-at.ensures ∙ c.before.found.given.1)
+    (le-ltb _ _ e.before.before.if1.false, le-ltb _ _ e.before.if2.false, ne_eqb _ _ (some e), sym f.found_at_lem.ensures ∙ c.before.found.given.1)
 
 returns-5 : tie.Need-returns-5
 unfolding next_of

@@ -2,7 +2,7 @@
 use mathlib.Core.Path.{sym, ◌∙◌}
 use Prim.Native.Nat.{◌≤◌}
 use native.Mathlib.Omega.{arith}
-use Rattle.fdl.specs.Reading.{destinationOf}
+use Rattle.fdl.specs.Reading.{destination_of}
 use Rattle.fdl.specs.Lemmas.Extends.{is_found, within}
 use borrow.Author.Rules.{rules}
 use Rattle.fdl_reader.proofs.destination.Statement.{statement}
@@ -45,13 +45,13 @@ source-requires : tie.Need-source-requires
 source-requires c κs = omega (arith, fits c, c.before.before.before.before.before.before.before.requires)
 
 returns : tie.Need-returns
-unfolding destinationOf
+unfolding destination_of
 returns c =
     let found = c.before in
     simp (sym found.before.before.access-point.ensures ∙ found.found.given.1)
 
 returns-2 : tie.Need-returns-2
-unfolding destinationOf
+unfolding destination_of
 returns-2 c =
     let found = c.before.before.before in
     simp (sym c.before.sap-length.ensures, sym found.before.before.access-point.ensures ∙ found.found2.given.1) c.source.ensures

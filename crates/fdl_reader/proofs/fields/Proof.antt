@@ -2,10 +2,10 @@
 use Prim.Native.Nat.{◌+◌}
 use mathlib.Core.Path.{◌≡◌, sym, ap, ◌∙◌}
 use lib.ListN.{get_or}
-use Rattle.function_code.specs.Code.{classOf, isReserved}
+use Rattle.function_code.specs.Code.{class_of, is_reserved}
 use Rattle.function_code.specs.declared.code.Class.{Class}
-use Rattle.fdl.specs.Reading.{destinationOf, fields_of, withClass}
-use Rattle.fdl_reader.proofs.Classes.{code-class}
+use Rattle.fdl.specs.Reading.{destination_of, fields_of, with_class}
+use Rattle.fdl_reader.proofs.Classes.{code_class}
 use borrow.Author.Tests.{eq-eqb, ne_eqb}
 use borrow.Author.Rules.{rules}
 use Rattle.fdl_reader.proofs.fields.Statement.{statement}
@@ -40,8 +40,8 @@ is-reserved-requires c κs = search rules
 told :
     (c : tie.After-is-reserved) →
     let a = (entry c.before).args in
-    isReserved (classOf (get_or a.s.now (a.at + 2) 0)) ≡ c.is-reserved.result
-told c = ap isReserved (sym c.before.class_of.ensures) ∙ sym c.is-reserved.ensures
+    is_reserved (class_of (get_or a.s.now (a.at + 2) 0)) ≡ c.is-reserved.result
+told c = ap is_reserved (sym c.before.class_of.ensures) ∙ sym c.is-reserved.ensures
 
 returns-2 : tie.Need-returns-2
 unfolding fields_of
@@ -57,8 +57,8 @@ returns-3 c =
     let l = k.before.before in
     let a = (entry l).args in
     simp (ne_eqb _ _ l.before.before.if1.false, told k.before ∙ k.if2.false)
-    (c.destination.ensures ∙ ap (λ (x : Class). withClass x (destinationOf a.s.now a.format a.at a.pdu)) l.class_of.ensures
-    ∙ code-class a.s.now a.format a.at a.pdu)
+    (c.destination.ensures ∙ ap (λ (x : Class). with_class x (destination_of a.s.now a.format a.at a.pdu)) l.class_of.ensures
+    ∙ code_class a.s.now a.format a.at a.pdu)
 
 pub fields-spec : {M : Type 1} → statement M
 fields-spec =

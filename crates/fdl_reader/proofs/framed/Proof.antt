@@ -1,8 +1,8 @@
 -- `fdl_reader::framed` meets its contract. The definition has the same tests in the same order.
 use Prim.Native.Nat.{ℕ, ◌+◌, ◌-◌}
 use lib.ListN.{take, drop}
-use Rattle.fdl.specs.Telegram.{checksumOf}
-use Rattle.fdl.specs.Reading.{framedOf}
+use Rattle.fdl.specs.Telegram.{checksum_of}
+use Rattle.fdl.specs.Reading.{framed_of}
 use mathlib.Core.Path.{◌≡◌, sym, ap, ◌∙◌}
 use native.Mathlib.Omega.{arith}
 use borrow.Author.Tests.{lt-ltb, le-ltb, eq-eqb, ne_eqb}
@@ -14,11 +14,11 @@ use Rattle.fdl_reader.proofs.framed.Tie as tie
 sum :
     (c : tie.After-checksum) →
     let b = c.before.before.before.before.before.before.before in
-    c.checksum.result ≡ checksumOf (take (b.args.pdu + 3) (drop b.args.at b.args.s.now))
+    c.checksum.result ≡ checksum_of (take (b.args.pdu + 3) (drop b.args.at b.args.s.now))
 sum c =
     let b = c.before.before.before.before.before.before.before in
     let e : b.args.at + b.args.pdu + 3 - b.args.at ≡ b.args.pdu + 3 = omega arith in
-    c.checksum.ensures ∙ ap (λ (k : ℕ). checksumOf (take k (drop b.args.at b.args.s.now))) e
+    c.checksum.ensures ∙ ap (λ (k : ℕ). checksum_of (take k (drop b.args.at b.args.s.now))) e
 
 add_total : tie.Need-overflow-add-total
 add_total c = search rules
@@ -27,11 +27,11 @@ add-total-2 : tie.Need-overflow-add-total-2
 add-total-2 c = search rules
 
 returns : tie.Need-returns
-unfolding framedOf
+unfolding framed_of
 returns c = simp (lt-ltb _ _ c.if1.true)
 
 returns-2 : tie.Need-returns-2
-unfolding framedOf
+unfolding framed_of
 returns-2 c = simp (le-ltb _ _ c.before.if1.false, lt-ltb _ _ c.if2.true)
 
 add-if3 : tie.Need-overflow-add-if3
@@ -44,7 +44,7 @@ shared-slice-read-if3 : tie.Need-shared-slice-read-if3
 shared-slice-read-if3 c = search rules
 
 returns-3 : tie.Need-returns-3
-unfolding framedOf
+unfolding framed_of
 returns-3 c = simp (le-ltb _ _ c.before.before.before.if1.false, le-ltb _ _ c.before.before.if2.false, ne_eqb _ _ c.if3.true)
 
 add-checksum : tie.Need-overflow-add-checksum
@@ -75,7 +75,7 @@ shared-slice-read-if4 : tie.Need-shared-slice-read-if4
 shared-slice-read-if4 c = search rules
 
 returns-4 : tie.Need-returns-4
-unfolding framedOf
+unfolding framed_of
 returns-4 c =
     let f = c.before.before in
     let a = f.before.before in
@@ -86,7 +86,7 @@ fields-requires : tie.Need-fields-requires
 fields-requires c κs = search rules
 
 returns-5 : tie.Need-returns-5
-unfolding framedOf
+unfolding framed_of
 returns-5 c =
     let f = c.before.before.before in
     let a = f.before.before in

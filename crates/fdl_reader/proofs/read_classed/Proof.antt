@@ -2,11 +2,11 @@
 use mathlib.Core.Path.{◌≡◌, sym, ap, ◌∙◌, subst}
 use Prim.Native.Nat.{ℕ, ◌≤◌}
 use native.Mathlib.Omega.{arith}
-use Rattle.function_code.specs.Code.{classOf}
-use Rattle.fdl.specs.Reading.{framedOf, read_of, classedBy}
+use Rattle.function_code.specs.Code.{class_of}
+use Rattle.fdl.specs.Reading.{framed_of, read_of, classed_by}
 use Rattle.fdl.specs.declared.telegram.Format.{Format}
 use Rattle.fdl.specs.declared.telegram.Format.TheVariants.{Sd1, Sd2, Sd3}
-use Rattle.fdl_leading.specs.Leading.{placeOf, Leads, leads}
+use Rattle.fdl_leading.specs.Leading.{place_of, Leads, leads}
 use Rattle.fdl_leading.specs.declared.Leading.{Leading}
 use borrow.Author.Rules.{rules}
 use Rattle.fdl_reader.proofs.read_classed.Statement.{statement}
@@ -19,7 +19,7 @@ entry c = c.before.before
 led : (c : tie.After-leading-bytes) {l : Leading} → c.leading-bytes.result ≡ l → let s = (entry c).args.bytes.now in Leads s (read_of s) l
 led c e = let s = (entry c).args.bytes.now in subst (Leads s (read_of s)) (sym c.leading-bytes.ensures ∙ e) (leads s)
 
-near : (f : Format) → placeOf f ≤ 4
+near : (f : Format) → place_of f ≤ 4
 near Sd1 = omega arith
 near Sd2 = omega arith
 near Sd3 = omega arith
@@ -61,17 +61,17 @@ returns c =
     let k = p.before.before in
     let g = k.found.given.0 in
     c.framed.ensures
-    ∙ ap (λ (at : ℕ). classedBy classOf (framedOf classOf (entry k.before.before).args.bytes.now g.0 at g.1.0)) p.place_of.ensures
-    ∙ ap (classedBy classOf) (led k.before.before k.found.given.1).0
+    ∙ ap (λ (at : ℕ). classed_by class_of (framed_of class_of (entry k.before.before).args.bytes.now g.0 at g.1.0)) p.place_of.ensures
+    ∙ ap (classed_by class_of) (led k.before.before k.found.given.1).0
 
 returns-2 : tie.Need-returns-2
-returns-2 c = let k = c.before in c.token.ensures ∙ ap (classedBy classOf) (led k.before.before k.enum_told.given.1)
+returns-2 c = let k = c.before in c.token.ensures ∙ ap (classed_by class_of) (led k.before.before k.enum_told.given.1)
 
 returns-3 : tie.Need-returns-3
-returns-3 c = ap (classedBy classOf) (led c.before.before c.enum-told2.given.1)
+returns-3 c = ap (classed_by class_of) (led c.before.before c.enum-told2.given.1)
 
 returns-4 : tie.Need-returns-4
-returns-4 c = let k = c.before in ap (classedBy classOf) (led k.before.before k.found2.given.1)
+returns-4 c = let k = c.before in ap (classed_by class_of) (led k.before.before k.found2.given.1)
 
 pub read-classed-spec : {M : Type 1} → statement M
 read-classed-spec =

@@ -1,7 +1,7 @@
 -- `fdl_writer::length_byte` meets its contract. DA, SA, FC and the access points are the head.
 use native.Mathlib.Omega.{arith}
 use borrow.Author.Rules.{rules}
-use Rattle.fdl.specs.Lemmas.Around.{head-length}
+use Rattle.fdl.specs.Lemmas.Around.{head_length}
 use Rattle.fdl_writer.proofs.length_byte.Statement.{statement}
 use Rattle.fdl_writer.proofs.length_byte.Tie as tie
 
@@ -9,22 +9,22 @@ sap-length-requires : tie.Need-sap-length-requires
 sap-length-requires c κs = search rules
 
 add-result : tie.Need-overflow-add-result
-add-result c = omega (arith, head-length c.before.args.header)
+add-result c = omega (arith, head_length c.before.args.header)
 
 sap-length-requires-2 : tie.Need-sap-length-requires-2
 sap-length-requires-2 c κs = search rules
 
 add-result-2 : tie.Need-overflow-add-result-2
-add-result-2 c = omega (arith, head-length c.before.before.args.header)
+add-result-2 c = omega (arith, head_length c.before.before.args.header)
 
 add-result-3 : tie.Need-overflow-add-result-3
-add-result-3 c = omega (arith, head-length c.before.before.args.header)
+add-result-3 c = omega (arith, head_length c.before.before.args.header)
 
 cast-result : tie.Need-overflow-cast-result
-cast-result c = omega (arith, head-length c.before.before.args.header)
+cast-result c = omega (arith, head_length c.before.before.args.header)
 
 returns : tie.Need-returns
-returns c = omega (arith, head-length c.before.before.args.header)
+returns c = omega (arith, head_length c.before.before.args.header)
 
 pub length-byte-spec : {M : Type 1} → statement M
 length-byte-spec =

@@ -5,41 +5,41 @@ use native.Mathlib.Omega.{arith}
 use lib.ListN.{length-set}
 use borrow.Author.Rules.{rules}
 use Rattle.octets.specs.Front.{stores}
-use Rattle.fdl.specs.Writing.{addressBytes}
-use Rattle.fdl.specs.Lemmas.Fields.{sap-small}
+use Rattle.fdl.specs.Writing.{address_bytes}
+use Rattle.fdl.specs.Lemmas.Fields.{sap_small}
 use Rattle.fdl_writer.proofs.put_addresses.Statement.{statement}
 use Rattle.fdl_writer.proofs.put_addresses.Tie as tie
 
 -- what each access point counts
-small-da : (c : tie.After-sap-length) → c.sap-length.result ≤ 1
-small-da c = omega (arith, sap-small c.before.before.args.header.dsap)
+small_da : (c : tie.After-sap-length) → c.sap-length.result ≤ 1
+small_da c = omega (arith, sap_small c.before.before.args.header.dsap)
 
-small-sa : (c : tie.After-sap-length2) → c.sap-length2.result ≤ 1
-small-sa c = omega (arith, sap-small c.before.before.before.before.args.header.ssap)
+small_sa : (c : tie.After-sap-length2) → c.sap-length2.result ≤ 1
+small_sa c = omega (arith, sap_small c.before.before.before.before.args.header.ssap)
 
 sap-length-requires : tie.Need-sap-length-requires
 sap-length-requires c κs = search rules
 
 cast-da : tie.Need-overflow-cast-da
-cast-da c = omega (arith, small-da c)
+cast-da c = omega (arith, small_da c)
 
 mul-da : tie.Need-overflow-mul-da
-mul-da c = omega (arith, small-da c)
+mul-da c = omega (arith, small_da c)
 
 add-da : tie.Need-overflow-add-da
-add-da c = omega (arith, small-da c.before)
+add-da c = omega (arith, small_da c.before)
 
 sap-length-requires-2 : tie.Need-sap-length-requires-2
 sap-length-requires-2 c κs = search rules
 
 cast-sa : tie.Need-overflow-cast-sa
-cast-sa c = omega (arith, small-sa c)
+cast-sa c = omega (arith, small_sa c)
 
 mul-sa : tie.Need-overflow-mul-sa
-mul-sa c = omega (arith, small-sa c)
+mul-sa c = omega (arith, small_sa c)
 
 add-sa : tie.Need-overflow-add-sa
-add-sa c = omega (arith, small-sa c.before)
+add-sa c = omega (arith, small_sa c.before)
 
 slice-write-out : tie.Need-slice-write-out
 slice-write-out c = search rules
@@ -58,7 +58,7 @@ returns c =
     let b = c.before.before.before.before.before in
     rw
     (c.before.before.before.sap-length.ensures, c.before.sap-length2.ensures)
-    (stores (addressBytes b.args.header) b.args.out.now b.requires.2)
+    (stores (address_bytes b.args.header) b.args.out.now b.requires.2)
 
 pub put-addresses-spec : {M : Type 1} → statement M
 put-addresses-spec =

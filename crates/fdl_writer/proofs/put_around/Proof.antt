@@ -5,11 +5,11 @@ use Prim.Native.Nat.{ℕ, ◌≤◌}
 use native.Mathlib.Omega.{arith}
 use lib.ListN.{length, take, drop, length-append}
 use borrow.Author.Rules.{rules}
-use Rattle.octets.specs.Front.{first_fits, within, rest-fits, both, lent-rest}
-use Rattle.fdl.specs.Writing.{startBytes, core_of, endBytes, closedOf, telegramOf}
-use Rattle.fdl.specs.Around.{userIn, headBytes, user-length}
-use Rattle.fdl.specs.Lemmas.Fields.{core-length}
-use Rattle.fdl.specs.Lemmas.Around.{head-length, around-length, user-behind}
+use Rattle.octets.specs.Front.{first_fits, within, rest_fits, both, lent_rest}
+use Rattle.fdl.specs.Writing.{start_bytes, core_of, end_bytes, closed_of, telegram_of}
+use Rattle.fdl.specs.Around.{user_in, head_bytes, user_length}
+use Rattle.fdl.specs.Lemmas.Fields.{core_length}
+use Rattle.fdl.specs.Lemmas.Around.{head_length, around_length, user_behind}
 use Rattle.fdl_writer.proofs.put_around.Statement.{statement}
 use Rattle.fdl_writer.proofs.put_around.Tie as tie
 
@@ -17,49 +17,49 @@ abbrev entry : tie.After-length-byte → tie.Start
 entry c = c.before.before
 
 -- the user data, and DA through the last of them
-abbrev userAt : tie.Start → List ℕ
-userAt b = userIn b.args.format b.args.header b.args.len b.args.out.now
+abbrev user_at : tie.Start → List ℕ
+user_at b = user_in b.args.format b.args.header b.args.len b.args.out.now
 
-abbrev coreAt : tie.Start → List ℕ
-coreAt b = core_of b.args.header (userAt b)
+abbrev core_at : tie.Start → List ℕ
+core_at b = core_of b.args.header (user_at b)
 
 -- the length byte, and what `put_start` stores
-abbrev leAt : tie.After-length-byte → ℕ
-leAt c = c.length-byte.result
+abbrev le_at : tie.After-length-byte → ℕ
+le_at c = c.length-byte.result
 
 abbrev start_at : tie.After-length-byte → List ℕ
-start_at c = startBytes (entry c).args.format (leAt c)
+start_at c = start_bytes (entry c).args.format (le_at c)
 
-counted : (b : tie.Start) → length (userAt b) ≡ b.args.len
-counted b = user-length b.args.format b.args.header b.args.len b.args.out.now
+counted : (b : tie.Start) → length (user_at b) ≡ b.args.len
+counted b = user_length b.args.format b.args.header b.args.len b.args.out.now
 
-le-core : (c : tie.After-length-byte) → length (coreAt (entry c)) ≡ leAt c
-le-core c =
+le_core : (c : tie.After-length-byte) → length (core_at (entry c)) ≡ le_at c
+le_core c =
     let h = (entry c).args.header in
-    omega (arith, core-length h (userAt (entry c)), counted (entry c), head-length h)
+    omega (arith, core_length h (user_at (entry c)), counted (entry c), head_length h)
 
 whole :
     (c : tie.After-length-byte) →
-    telegramOf (entry c).args.format (entry c).args.header (userAt (entry c)) ≡ start_at c ++ closedOf (coreAt (entry c))
-unfolding telegramOf
-whole c = rw (le-core c)
+    telegram_of (entry c).args.format (entry c).args.header (user_at (entry c)) ≡ start_at c ++ closed_of (core_at (entry c))
+unfolding telegram_of
+whole c = rw (le_core c)
 
-fits : (b : tie.Start) → length (telegramOf b.args.format b.args.header (userAt b)) ≤ length b.args.out.now
+fits : (b : tie.Start) → length (telegram_of b.args.format b.args.header (user_at b)) ≤ length b.args.out.now
 fits b =
     let a = b.args in
-    omega (arith, around-length a.format a.header (userAt b) (counted b), b.requires.3)
+    omega (arith, around_length a.format a.header (user_at b) (counted b), b.requires.3)
 
-room : (c : tie.After-length-byte) → length (start_at c ++ closedOf (coreAt (entry c))) ≤ length (entry c).args.out.now
+room : (c : tie.After-length-byte) → length (start_at c ++ closed_of (core_at (entry c))) ≤ length (entry c).args.out.now
 room c = rw (whole c) at (fits (entry c))
 
 -- the user data stand behind the start and the head
 behind :
     (c : tie.After-length-byte) →
     let a = (entry c).args in
-    take a.len (drop (length (headBytes a.header)) (drop (length (start_at c)) a.out.now)) ≡ userAt (entry c)
+    take a.len (drop (length (head_bytes a.header)) (drop (length (start_at c)) a.out.now)) ≡ user_at (entry c)
 behind c =
     let b = entry c in
-    user-behind b.args.format b.args.header b.args.len (leAt c) b.args.out.now (omega (arith, b.pre.3))
+    user_behind b.args.format b.args.header b.args.len (le_at c) b.args.out.now (omega (arith, b.pre.3))
 
 length-byte-requires : tie.Need-length-byte-requires
 length-byte-requires c κs = c.before.requires.2
@@ -67,13 +67,13 @@ length-byte-requires c κs = c.before.requires.2
 put-start-requires : tie.Need-put-start-requires
 put-start-requires c κs =
     let s = c.before in
-    first_fits (start_at s) (closedOf (coreAt (entry s))) (room s)
+    first_fits (start_at s) (closed_of (core_at (entry s))) (room s)
 
 sub-put-closed : tie.Need-overflow-sub-put-closed
 sub-put-closed c =
     let p = c.before.before in
     let s = p.before.before in
-    omega (arith, within p.put-start.ensures (closedOf (coreAt (entry s))) (room s))
+    omega (arith, within p.put-start.ensures (closed_of (core_at (entry s))) (room s))
 
 part-put-closed-start : tie.Need-slice-bounds-put-closed-start
 part-put-closed-start c = sub-put-closed c
@@ -86,17 +86,17 @@ put-closed-requires c κs =
     let p = c.before.before.before in
     let s = p.before.before in
     let b = entry s in
-    let core = coreAt b in
-    let left = rest-fits p.put-start.ensures (closedOf core) (room s) in
-    let user = rw (← behind s, ← lent-rest p.put-start.ensures) at b.pre.4 in
-    (b.pre.0, b.pre.1, b.pre.2, omega (arith, left, length-append core (endBytes core), le-core s), user)
+    let core = core_at b in
+    let left = rest_fits p.put-start.ensures (closed_of core) (room s) in
+    let user = rw (← behind s, ← lent_rest p.put-start.ensures) at b.pre.4 in
+    (b.pre.0, b.pre.1, b.pre.2, omega (arith, left, length-append core (end_bytes core), le_core s), user)
 
 returns : tie.Need-returns
 returns c =
     let p = c.before.before.before.before.before.before in
     let s = p.before.before in
     let start = p.put-start.ensures in
-    rw (whole s, ← behind s, ← lent-rest start) (both start c.before.before.put-closed.ensures)
+    rw (whole s, ← behind s, ← lent_rest start) (both start c.before.before.put-closed.ensures)
 
 add-result : tie.Need-overflow-add-result
 add-result c =

@@ -7,43 +7,43 @@ use native.Mathlib.Omega.{arith}
 use lib.ListN.{length, take, drop, length-append}
 use borrow.Author.Rules.{rules}
 use Rattle.octets.specs.Front.{AtFront, front, within, behind, kept}
-use Rattle.fdl.specs.Telegram.{checksumOf}
-use Rattle.fdl.specs.Writing.{core_of, endBytes}
-use Rattle.fdl.specs.Around.{headBytes}
-use Rattle.fdl.specs.Lemmas.Around.{head-core, core-checksum}
+use Rattle.fdl.specs.Telegram.{checksum_of}
+use Rattle.fdl.specs.Writing.{core_of, end_bytes}
+use Rattle.fdl.specs.Around.{head_bytes}
+use Rattle.fdl.specs.Lemmas.Around.{head_core, core_checksum}
 use Rattle.fdl_writer.proofs.put_closed.Statement.{statement}
 use Rattle.fdl_writer.proofs.put_closed.Tie as tie
 
 -- the head, the user data behind its place, and the core
-abbrev headAt : tie.Start → List ℕ
-headAt b = headBytes b.args.header
+abbrev head_at : tie.Start → List ℕ
+head_at b = head_bytes b.args.header
 
-abbrev userAt : tie.Start → List ℕ
-userAt b = take b.args.len (drop (length (headAt b)) b.args.out.now)
+abbrev user_at : tie.Start → List ℕ
+user_at b = take b.args.len (drop (length (head_at b)) b.args.out.now)
 
-abbrev coreAt : tie.Start → List ℕ
-coreAt b = core_of b.args.header (userAt b)
+abbrev core_at : tie.Start → List ℕ
+core_at b = core_of b.args.header (user_at b)
 
 -- where the head was stored, the core stands
 cored :
     (b : tie.Start) {a : List ℕ} {n : ℕ} →
-    AtFront (headAt b) b.args.out.now a n →
-    AtFront (coreAt b) b.args.out.now a (n + b.args.len)
+    AtFront (head_at b) b.args.out.now a n →
+    AtFront (core_at b) b.args.out.now a (n + b.args.len)
 cored b {a} {n} f =
     subst
     (λ (p : List ℕ). AtFront p b.args.out.now a (n + b.args.len))
-    (sym (head-core b.args.header (userAt b)))
+    (sym (head_core b.args.header (user_at b)))
     (kept f b.args.len (omega (arith, b.requires.3)))
 
 -- the checksum that is stored
-abbrev fcsAt : tie.After-head-sum → ℕ
-fcsAt c = (c.head-sum.result + c.before.before.args.sum) % 256
+abbrev fcs_at : tie.After-head-sum → ℕ
+fcs_at c = (c.head-sum.result + c.before.before.args.sum) % 256
 
-closing : (c : tie.After-head-sum) → fcsAt c ∷ 0x16 ∷ [] ≡ endBytes (coreAt c.before.before)
+closing : (c : tie.After-head-sum) → fcs_at c ∷ 0x16 ∷ [] ≡ end_bytes (core_at c.before.before)
 closing c =
     let b = c.before.before in
-    let e : fcsAt c ≡ checksumOf (coreAt b) =
-    ap₂ (λ (x y : ℕ). (x + y) % 256) c.head-sum.ensures b.requires.4 ∙ sym (core-checksum b.args.header (userAt b))
+    let e : fcs_at c ≡ checksum_of (core_at b) =
+    ap₂ (λ (x y : ℕ). (x + y) % 256) c.head-sum.ensures b.requires.4 ∙ sym (core_checksum b.args.header (user_at b))
     in
     ap (λ (x : ℕ). x ∷ 0x16 ∷ []) e
 
@@ -70,8 +70,8 @@ put-end-requires c κs =
     let p = c.before.before.before in
     let b = p.before.before.before.before in
     let g = cored b p.put-head.ensures in
-    let end = endBytes (coreAt b) in
-    let room = within g end (omega (arith, g.counted, length-append (coreAt b) end)) in
+    let end = end_bytes (core_at b) in
+    let room = within g end (omega (arith, g.counted, length-append (core_at b) end)) in
     (omega arith, omega (arith, room))
 
 add-result : tie.Need-overflow-add-result
@@ -86,7 +86,7 @@ returns c =
     let s = p.before.before in
     let b = s.before.before in
     let g = cored b p.put-head.ensures in
-    behind g (endBytes (coreAt b)) (rw (front g, closing s) at c.before.before.put-end.ensures)
+    behind g (end_bytes (core_at b)) (rw (front g, closing s) at c.before.before.put-end.ensures)
 
 pub put-closed-spec : {M : Type 1} → statement M
 put-closed-spec =

@@ -3,27 +3,27 @@ use mathlib.Core.List.{List}
 use Prim.Native.Nat.{ℕ}
 use native.Mathlib.Omega.{arith}
 use borrow.Author.Rules.{rules}
-use Rattle.octets.specs.Front.{first_fits, within, rest-fits, both}
-use Rattle.fdl.specs.Writing.{sapBytes}
+use Rattle.octets.specs.Front.{first_fits, within, rest_fits, both}
+use Rattle.fdl.specs.Writing.{sap_bytes}
 use Rattle.fdl_writer.proofs.put_saps.Statement.{statement}
 use Rattle.fdl_writer.proofs.put_saps.Tie as tie
 
-abbrev dsapAt : tie.Start → List ℕ
-dsapAt b = sapBytes b.args.dsap
+abbrev dsap_at : tie.Start → List ℕ
+dsap_at b = sap_bytes b.args.dsap
 
-abbrev ssapAt : tie.Start → List ℕ
-ssapAt b = sapBytes b.args.ssap
+abbrev ssap_at : tie.Start → List ℕ
+ssap_at b = sap_bytes b.args.ssap
 
 put-sap-requires : tie.Need-put-sap-requires
 put-sap-requires c κs =
     let b = c.before.before in
-    first_fits (dsapAt b) (ssapAt b) b.requires
+    first_fits (dsap_at b) (ssap_at b) b.requires
 
 sub-put-sap : tie.Need-overflow-sub-put-sap
 sub-put-sap c =
     let p = c.before.before in
     let b = p.before.before.before in
-    omega (arith, within p.put-sap.ensures (ssapAt b) b.requires)
+    omega (arith, within p.put-sap.ensures (ssap_at b) b.requires)
 
 part-put-sap-start : tie.Need-slice-bounds-put-sap-start
 part-put-sap-start c = sub-put-sap c
@@ -35,7 +35,7 @@ put-sap-requires-2 : tie.Need-put-sap-requires-2
 put-sap-requires-2 c κs =
     let p = c.before.before.before in
     let b = p.before.before.before in
-    rest-fits p.put-sap.ensures (ssapAt b) b.requires
+    rest_fits p.put-sap.ensures (ssap_at b) b.requires
 
 returns : tie.Need-returns
 returns c = both c.before.before.before.before.before.before.put-sap.ensures c.before.before.put-sap2.ensures

@@ -8,9 +8,9 @@ use lib.ListN.{length}
 use borrow.Author.Rules.{rules}
 use borrow.Author.Tests.{not-true, not-false}
 use Rattle.octets.specs.Front.{refused, too_small, stored, covered}
-use Rattle.fdl.specs.Telegram.{checksumOf}
-use Rattle.fdl.specs.Writing.{telegramOf}
-use Rattle.fdl.specs.Lemmas.Around.{Fit, fit, unfit, user-held}
+use Rattle.fdl.specs.Telegram.{checksum_of}
+use Rattle.fdl.specs.Writing.{telegram_of}
+use Rattle.fdl.specs.Lemmas.Around.{Fit, fit, unfit, user_held}
 use Rattle.fdl_writer.proofs.write.Statement.{statement}
 use Rattle.fdl_writer.proofs.write.Tie as tie
 
@@ -18,23 +18,23 @@ abbrev entry : tie.After-writable → tie.Start
 entry c = c.before.before.before
 
 -- the user data, their length, and the telegram
-abbrev userAt : tie.Start → List ℕ
-userAt b = b.args.user.now
+abbrev user_at : tie.Start → List ℕ
+user_at b = b.args.user.now
 
 abbrev len_at : tie.Start → ℕ
-len_at b = length (userAt b)
+len_at b = length (user_at b)
 
 abbrev bytes_at : tie.Start → List ℕ
-bytes_at b = telegramOf b.args.format b.args.header (userAt b)
+bytes_at b = telegram_of b.args.format b.args.header (user_at b)
 
 -- what the test leaves
 fitting :
     (c : tie.Else1) →
     let b = entry c.before in
-    Fit b.args.format b.args.header (userAt b) (len_at b)
+    Fit b.args.format b.args.header (user_at b) (len_at b)
 fitting c =
     let b = entry c.before in
-    fit b.args.format b.args.header (userAt b) refl (sym c.before.writable.ensures ∙ not-false _ c.if1.false)
+    fit b.args.format b.args.header (user_at b) refl (sym c.before.writable.ensures ∙ not-false _ c.if1.false)
 
 writable-requires : tie.Need-writable-requires
 writable-requires c κs = search rules
@@ -44,7 +44,7 @@ returns c =
     let b = entry c.before in
     let a = b.args in
     let bad = sym c.before.writable.ensures ∙ not-true _ c.if1.true in
-    rw (unfit a.format a.header (userAt b) refl bad) (refused 12 (bytes_at b) a.out.now)
+    rw (unfit a.format a.header (user_at b) refl bad) (refused 12 (bytes_at b) a.out.now)
 
 user-start-requires : tie.Need-user-start-requires
 user-start-requires c κs = search rules
@@ -76,8 +76,8 @@ put-around-requires c κs =
     let a = b.args in
     let g = fitting u.before in
     let held = s.store-behind.ensures.1 in
-    let user = user-held a.format a.header u.user-start.result (userAt b) a.out.now u.user-start.ensures (omega arith) held in
-    (g.header.da, g.header.sa, g.core, omega arith, k.checksum.ensures ∙ ap checksumOf (sym user))
+    let user = user_held a.format a.header u.user-start.result (user_at b) a.out.now u.user-start.ensures (omega arith) held in
+    (g.header.da, g.header.sa, g.core, omega arith, k.checksum.ensures ∙ ap checksum_of (sym user))
 
 same_length : tie.Need-same-length
 same_length c = search rules
@@ -92,8 +92,8 @@ returns-3 c =
     let g = fitting u.before in
     let start = u.user-start.result in
     let held = s.store-behind.ensures.1 in
-    let user = user-held a.format a.header start (userAt b) a.out.now u.user-start.ensures (omega arith) held in
-    let made = covered start (userAt b) a.out.now (omega arith) (omega (arith, g.total)) held (rw user at p.put-around.ensures) in
+    let user = user_held a.format a.header start (user_at b) a.out.now u.user-start.ensures (omega arith) held in
+    let made = covered start (user_at b) a.out.now (omega arith) (omega (arith, g.total)) held (rw user at p.put-around.ensures) in
     rw g.verdict (stored (omega (arith, g.total)) made)
 
 pub write_spec : {M : Type 1} → statement M

@@ -8,9 +8,9 @@ use lib.ListN.{length, take, drop}
 use borrow.Author.Rules.{rules}
 use borrow.Author.Tests.{not-true, not-false}
 use Rattle.octets.specs.Front.{refused, too_small, stored}
-use Rattle.fdl.specs.Telegram.{checksumOf}
-use Rattle.fdl.specs.Writing.{telegramOf}
-use Rattle.fdl.specs.Around.{userIn, user-length, user-inside}
+use Rattle.fdl.specs.Telegram.{checksum_of}
+use Rattle.fdl.specs.Writing.{telegram_of}
+use Rattle.fdl.specs.Around.{user_in, user_length, user_inside}
 use Rattle.fdl.specs.Lemmas.Around.{Fit, fit, unfit}
 use Rattle.fdl_writer.proofs.write_around.Statement.{statement}
 use Rattle.fdl_writer.proofs.write_around.Tie as tie
@@ -19,23 +19,23 @@ abbrev entry : tie.After-writable → tie.Start
 entry c = c.before.before
 
 -- the user data in their place, and the telegram around them
-abbrev userAt : tie.Start → List ℕ
-userAt b = userIn b.args.format b.args.header b.args.len b.args.out.now
+abbrev user_at : tie.Start → List ℕ
+user_at b = user_in b.args.format b.args.header b.args.len b.args.out.now
 
 abbrev bytes_at : tie.Start → List ℕ
-bytes_at b = telegramOf b.args.format b.args.header (userAt b)
+bytes_at b = telegram_of b.args.format b.args.header (user_at b)
 
-counted : (b : tie.Start) → length (userAt b) ≡ b.args.len
-counted b = user-length b.args.format b.args.header b.args.len b.args.out.now
+counted : (b : tie.Start) → length (user_at b) ≡ b.args.len
+counted b = user_length b.args.format b.args.header b.args.len b.args.out.now
 
 -- what the test leaves
 fitting :
     (c : tie.Else1) →
     let b = entry c.before in
-    Fit b.args.format b.args.header (userAt b) b.args.len
+    Fit b.args.format b.args.header (user_at b) b.args.len
 fitting c =
     let b = entry c.before in
-    fit b.args.format b.args.header (userAt b) (counted b) (sym c.before.writable.ensures ∙ not-false _ c.if1.false)
+    fit b.args.format b.args.header (user_at b) (counted b) (sym c.before.writable.ensures ∙ not-false _ c.if1.false)
 
 writable-requires : tie.Need-writable-requires
 writable-requires c κs = search rules
@@ -45,7 +45,7 @@ returns c =
     let b = entry c.before in
     let a = b.args in
     let bad = sym c.before.writable.ensures ∙ not-true _ c.if1.true in
-    rw (unfit a.format a.header (userAt b) (counted b) bad) (refused 12 (bytes_at b) a.out.now)
+    rw (unfit a.format a.header (user_at b) (counted b) bad) (refused 12 (bytes_at b) a.out.now)
 
 user-start-requires : tie.Need-user-start-requires
 user-start-requires c κs = search rules
@@ -87,9 +87,9 @@ put-around-requires c κs =
     let long : place + a.len - place ≡ a.len = omega arith in
     let user =
     ap₂ (λ (n k : ℕ). take n (drop k a.out.now)) long u.user-start.ensures
-    ∙ sym (user-inside a.format a.header a.len a.out.now (omega arith))
+    ∙ sym (user_inside a.format a.header a.len a.out.now (omega arith))
     in
-    (g.header.da, g.header.sa, g.core, omega arith, k.checksum.ensures ∙ ap checksumOf user)
+    (g.header.da, g.header.sa, g.core, omega arith, k.checksum.ensures ∙ ap checksum_of user)
 
 same_length : tie.Need-same-length
 same_length c = search rules

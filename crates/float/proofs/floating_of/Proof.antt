@@ -2,7 +2,7 @@
 use mathlib.Core.Path.{◌≡◌, sym, ◌∙◌}
 use mathlib.Core.Bool.{false}
 use borrow.Author.Rules.{rules}
-use Rattle.float.specs.Float.{isNanPattern}
+use Rattle.float.specs.Float.{is_nan_pattern}
 use Rattle.float.proofs.floating_of.Statement.{statement}
 use Rattle.float.proofs.floating_of.Tie as tie
 
@@ -12,7 +12,7 @@ is-nan-pattern-requires c κs = search rules
 returns : tie.Need-returns
 returns c = simp (sym c.before.is-nan-pattern.ensures ∙ c.if1.true)
 
-number : (c : tie.Else1) → isNanPattern c.before.before.args.bits ≡ false
+number : (c : tie.Else1) → is_nan_pattern c.before.before.args.bits ≡ false
 number c = sym c.before.is-nan-pattern.ensures ∙ c.if1.false
 
 float-from-bits-t3 : tie.Need-float-from-bits-t3

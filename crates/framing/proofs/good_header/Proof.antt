@@ -3,8 +3,8 @@ use mathlib.Core.Path.{◌≡◌, sym, ◌∙◌}
 use borrow.Author.Rules.{rules}
 use borrow.Author.Tests.{le-leb, lt-leb, not-true, not-false}
 use Rattle.octets.specs.Choice.{◌and◌}
-use Rattle.function_code.specs.Code.{classOf}
-use Rattle.fdl.specs.Writing.{goodSap, goodHeader}
+use Rattle.function_code.specs.Code.{class_of}
+use Rattle.fdl.specs.Writing.{good_sap, good_header}
 use Rattle.framing.proofs.good_header.Statement.{statement}
 use Rattle.framing.proofs.good_header.Tie as tie
 
@@ -12,25 +12,25 @@ use Rattle.framing.proofs.good_header.Tie as tie
 passed :
     (c : tie.Else3) →
     let h = c.before.before.before.before.before.before.args.header in
-    goodHeader classOf h ≡ (goodSap h.dsap and goodSap h.ssap)
-unfolding goodHeader
+    good_header class_of h ≡ (good_sap h.dsap and good_sap h.ssap)
+unfolding good_header
 passed c =
     let b = c.before.before in
     simp (le-leb _ _ b.before.before.if1.false, le-leb _ _ b.if2.false, sym c.before.reserved.ensures ∙ c.if3.false)
 
 returns : tie.Need-returns
-unfolding goodHeader
+unfolding good_header
 returns c = simp (lt-leb _ _ c.if1.true)
 
 returns-2 : tie.Need-returns-2
-unfolding goodHeader
+unfolding good_header
 returns-2 c = simp (le-leb _ _ c.before.before.if1.false, lt-leb _ _ c.if2.true)
 
 reserved-requires : tie.Need-reserved-requires
 reserved-requires c κs = search rules
 
 returns-3 : tie.Need-returns-3
-unfolding goodHeader
+unfolding good_header
 returns-3 c =
     let b = c.before.before in
     simp (le-leb _ _ b.before.before.if1.false, le-leb _ _ b.if2.false, sym c.before.reserved.ensures ∙ c.if3.true)

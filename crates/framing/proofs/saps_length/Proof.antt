@@ -1,7 +1,7 @@
 -- `framing::saps_length` meets its contract. Each access point takes at most one byte.
 use native.Mathlib.Omega.{arith}
 use borrow.Author.Rules.{rules}
-use Rattle.fdl.specs.Lemmas.Fields.{sap-small}
+use Rattle.fdl.specs.Lemmas.Fields.{sap_small}
 use Rattle.framing.proofs.saps_length.Statement.{statement}
 use Rattle.framing.proofs.saps_length.Tie as tie
 
@@ -14,7 +14,7 @@ sap-length-requires-2 c κs = search rules
 add-result : tie.Need-overflow-add-result
 add-result c =
     let h = c.before.before.args.header in
-    omega (arith, sap-small h.dsap, sap-small h.ssap)
+    omega (arith, sap_small h.dsap, sap_small h.ssap)
 
 returns : tie.Need-returns
 returns c = search rules

@@ -1,7 +1,7 @@
 -- `framing::user_start` meets its contract. The start, three bytes and the access points are few.
 use native.Mathlib.Omega.{arith}
 use borrow.Author.Rules.{rules}
-use Rattle.fdl.specs.Lemmas.Fields.{sap-small, start_small}
+use Rattle.fdl.specs.Lemmas.Fields.{sap_small, start_small}
 use Rattle.framing.proofs.user_start.Statement.{statement}
 use Rattle.framing.proofs.user_start.Tie as tie
 
@@ -17,7 +17,7 @@ saps-length-requires c κs = search rules
 add-result-2 : tie.Need-overflow-add-result-2
 add-result-2 c =
     let a = c.before.before.args in
-    omega (arith, start_small a.format, sap-small a.header.dsap, sap-small a.header.ssap)
+    omega (arith, start_small a.format, sap_small a.header.dsap, sap_small a.header.ssap)
 
 returns : tie.Need-returns
 returns c = search rules

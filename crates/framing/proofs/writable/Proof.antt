@@ -5,17 +5,17 @@ use Prim.Native.Nat.{ℕ, ◌+◌}
 use native.Mathlib.Omega.{arith}
 use borrow.Author.Rules.{rules}
 use borrow.Author.Tests.{not-true, not-false}
-use Rattle.function_code.specs.Code.{classOf}
-use Rattle.fdl.specs.Telegram.{sapLength}
-use Rattle.fdl.specs.Writing.{goodHeader, goodLength}
-use Rattle.fdl.specs.Lemmas.Fields.{sap-small, pdu-large}
+use Rattle.function_code.specs.Code.{class_of}
+use Rattle.fdl.specs.Telegram.{sap_length}
+use Rattle.fdl.specs.Writing.{good_header, good_length}
+use Rattle.fdl.specs.Lemmas.Fields.{sap_small, pdu_large}
 use Rattle.framing.proofs.writable.Statement.{statement}
 use Rattle.framing.proofs.writable.Tie as tie
 
-abbrev pduAt : tie.Start → ℕ
-pduAt b = sapLength b.args.header.dsap + sapLength b.args.header.ssap + b.args.len
+abbrev pdu_at : tie.Start → ℕ
+pdu_at b = sap_length b.args.header.dsap + sap_length b.args.header.ssap + b.args.len
 
-header : (c : tie.Else1) → goodHeader classOf c.before.before.args.header ≡ true
+header : (c : tie.Else1) → good_header class_of c.before.before.args.header ≡ true
 header c = sym c.before.good-header.ensures ∙ not-false _ c.if1.false
 
 good-header-requires : tie.Need-good-header-requires
@@ -27,7 +27,7 @@ returns c = simp (sym c.before.good-header.ensures ∙ not-true _ c.if1.true)
 returns-2 : tie.Need-returns-2
 returns-2 c =
     let b = c.before.before.before in
-    simp (header c.before, pdu-large b.args.format (pduAt b) (omega arith))
+    simp (header c.before, pdu_large b.args.format (pdu_at b) (omega arith))
 
 saps-length-requires : tie.Need-saps-length-requires
 saps-length-requires c κs = search rules
@@ -35,7 +35,7 @@ saps-length-requires c κs = search rules
 add-good-length : tie.Need-overflow-add-good-length
 add-good-length c =
     let h = c.before.before.before.before.args.header in
-    omega (arith, sap-small h.dsap, sap-small h.ssap)
+    omega (arith, sap_small h.dsap, sap_small h.ssap)
 
 good-length-requires : tie.Need-good-length-requires
 good-length-requires c κs = search rules
@@ -45,7 +45,7 @@ returns-3 c =
     let s = c.before in
     let b = s.before.before.before.before in
     simp (header s.before.before)
-    (c.good_length.ensures ∙ ap (λ (k : ℕ). goodLength b.args.format (k + b.args.len)) s.saps-length.ensures)
+    (c.good_length.ensures ∙ ap (λ (k : ℕ). good_length b.args.format (k + b.args.len)) s.saps-length.ensures)
 
 pub writable-spec : {M : Type 1} → statement M
 writable-spec =

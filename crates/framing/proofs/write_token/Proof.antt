@@ -5,31 +5,31 @@ use lib.ListN.{length-set}
 use borrow.Author.Rules.{rules}
 use borrow.Author.Tests.{le-leb, lt-leb}
 use Rattle.octets.specs.Front.{fine, stores, refused, too_small, stored}
-use Rattle.fdl.specs.Writing.{tokenBytes, tokenVerdict}
+use Rattle.fdl.specs.Writing.{token_bytes, token_verdict}
 use Rattle.framing.proofs.write_token.Statement.{statement}
 use Rattle.framing.proofs.write_token.Tie as tie
 
 -- what the two tests leave
-good : (c : tie.Else2) → tokenVerdict c.before.before.args.da c.before.before.args.sa ≡ fine
-unfolding tokenVerdict
+good : (c : tie.Else2) → token_verdict c.before.before.args.da c.before.before.args.sa ≡ fine
+unfolding token_verdict
 good c = simp (le-leb _ _ c.before.if1.false, le-leb _ _ c.if2.false)
 
 returns : tie.Need-returns
-unfolding tokenVerdict
+unfolding token_verdict
 returns c =
     let a = c.before.args in
-    simp (lt-leb _ _ c.if1.true) (refused 12 (tokenBytes a.da a.sa) a.out.now)
+    simp (lt-leb _ _ c.if1.true) (refused 12 (token_bytes a.da a.sa) a.out.now)
 
 returns-2 : tie.Need-returns-2
-unfolding tokenVerdict
+unfolding token_verdict
 returns-2 c =
     let a = c.before.before.args in
-    simp (le-leb _ _ c.before.if1.false, lt-leb _ _ c.if2.true) (refused 12 (tokenBytes a.da a.sa) a.out.now)
+    simp (le-leb _ _ c.before.if1.false, lt-leb _ _ c.if2.true) (refused 12 (token_bytes a.da a.sa) a.out.now)
 
 returns-3 : tie.Need-returns-3
 returns-3 c =
     let a = c.before.before.before.args in
-    rw (good c.before) (too_small (tokenBytes a.da a.sa) a.out.now c.if3.true)
+    rw (good c.before) (too_small (token_bytes a.da a.sa) a.out.now c.if3.true)
 
 slice-write-out : tie.Need-slice-write-out
 slice-write-out c = search rules
@@ -46,7 +46,7 @@ same_length c = search rules
 returns-4 : tie.Need-returns-4
 returns-4 c =
     let a = c.before.before.before.args in
-    rw (good c.before) (stored c.if3.false (stores (tokenBytes a.da a.sa) a.out.now c.if3.false))
+    rw (good c.before) (stored c.if3.false (stores (token_bytes a.da a.sa) a.out.now c.if3.false))
 
 pub write-token-spec : {M : Type 1} → statement M
 write-token-spec =

@@ -2,13 +2,13 @@
 use native.Mathlib.Omega.{arith}
 use lib.ListN.{length-set}
 use Rattle.octets.specs.Number.{bytes_of}
-use Rattle.octets.specs.Front.{none-stored, all-stored, stores}
+use Rattle.octets.specs.Front.{none_stored, all_stored, stores}
 use borrow.Author.Rules.{rules}
 use Rattle.octets.proofs.store32.Statement.{statement}
 use Rattle.octets.proofs.store32.Tie as tie
 
 returns : tie.Need-returns
-returns c = none-stored (bytes_of 4 c.before.args.n) c.before.args.out.now c.if1.true
+returns c = none_stored (bytes_of 4 c.before.args.n) c.before.args.out.now c.if1.true
 
 cast-out : tie.Need-overflow-cast-out
 cast-out c = search rules
@@ -40,7 +40,7 @@ same_length c = search rules
 returns-2 : tie.Need-returns-2
 returns-2 c =
     let p = bytes_of 4 c.before.args.n in
-    all-stored c.if1.false (stores p c.before.args.out.now c.if1.false)
+    all_stored c.if1.false (stores p c.before.args.out.now c.if1.false)
 
 pub store32-spec : {M : Type 1} → statement M
 store32-spec =

@@ -4,14 +4,14 @@ use native.Mathlib.Omega.{arith}
 use lib.ListN.{length}
 use borrow.Rule.Slice.PartMut.{mid_of}
 use borrow.Author.Rules.{rules}
-use Rattle.octets.specs.Front.{none-behind, all-behind, copied}
+use Rattle.octets.specs.Front.{none_behind, all_behind, copied}
 use Rattle.octets.proofs.store_behind.Statement.{statement}
 use Rattle.octets.proofs.store_behind.Tie as tie
 
 returns : tie.Need-returns
 returns c =
     let a = c.before.before.before.args in
-    none-behind a.n a.source.now a.out.now (omega arith)
+    none_behind a.n a.source.now a.out.now (omega arith)
 
 sub-if2 : tie.Need-overflow-sub-if2
 sub-if2 c = search rules
@@ -19,7 +19,7 @@ sub-if2 c = search rules
 returns-2 : tie.Need-returns-2
 returns-2 c =
     let a = c.before.before.before.before.args in
-    none-behind a.n a.source.now a.out.now (omega arith)
+    none_behind a.n a.source.now a.out.now (omega arith)
 
 sub-copy : tie.Need-overflow-sub-copy
 sub-copy c = search rules
@@ -44,7 +44,7 @@ returns-3 c =
     let k = c.before.before in
     let a = k.before.before.before.before.before.before.args in
     let e = k.copy.ensures in
-    all-behind a.n a.out.now (omega arith)
+    all_behind a.n a.out.now (omega arith)
     (copied a.source.now (mid_of a.n (length a.out.now - a.n) a.out.now) e.0 e.1)
 
 pub store-behind-spec : {M : Type 1} → statement M

@@ -2,8 +2,8 @@
 use mathlib.Core.Path.{sym, ap, ◌∙◌}
 use mathlib.Core.Bool.{not}
 use borrow.Author.Rules.{rules}
-use Rattle.parameters.specs.Fields.{extensionVerdict}
-use Rattle.parameters.specs.Reading.{extensionOf}
+use Rattle.parameters.specs.Fields.{extension_verdict}
+use Rattle.parameters.specs.Reading.{extension_of}
 use Rattle.parameters_reader.proofs.dpv1.Statement.{statement}
 use Rattle.parameters_reader.proofs.dpv1.Tie as tie
 
@@ -14,7 +14,7 @@ good-status1-requires : tie.Need-good-status1-requires
 good-status1-requires c κs = search rules
 
 returns : tie.Need-returns
-unfolding extensionVerdict extensionOf
+unfolding extension_verdict extension_of
 returns c = simp (ap not (sym c.before.good-status1.ensures) ∙ c.if1.true)
 
 shared-slice-read-status2 : tie.Need-shared-slice-read-status2
@@ -24,7 +24,7 @@ good-status2-requires : tie.Need-good-status2-requires
 good-status2-requires c κs = search rules
 
 returns-2 : tie.Need-returns-2
-unfolding extensionVerdict extensionOf
+unfolding extension_verdict extension_of
 returns-2 c =
     let e1 = c.before.before.before in
     simp (ap not (sym e1.before.good-status1.ensures) ∙ e1.if1.false, ap not (sym c.before.good-status2.ensures) ∙ c.if2.true)
@@ -36,7 +36,7 @@ good-status3-requires : tie.Need-good-status3-requires
 good-status3-requires c κs = search rules
 
 returns-3 : tie.Need-returns-3
-unfolding extensionVerdict extensionOf
+unfolding extension_verdict extension_of
 returns-3 c =
     let e2 = c.before.before.before in
     let e1 = e2.before.before.before in
@@ -50,7 +50,7 @@ answer-requires : tie.Need-answer-requires
 answer-requires c κs = search rules
 
 returns-4 : tie.Need-returns-4
-unfolding extensionVerdict extensionOf
+unfolding extension_verdict extension_of
 returns-4 c =
     let e3 = c.before in
     let e2 = e3.before.before.before in

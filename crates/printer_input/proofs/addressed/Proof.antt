@@ -1,15 +1,15 @@
 -- `printer_input::addressed` meets its contract: the class is a call's, then the address.
 use mathlib.Core.Path.{◌≡◌, sym, ap, ◌∙◌}
 use borrow.Author.Tests.{not-true, not-false, eq-eqb, ne_eqb}
-use Rattle.function_code.specs.Code.{classOf}
-use Rattle.protocol.specs.Printer.{isCall}
+use Rattle.function_code.specs.Code.{class_of}
+use Rattle.protocol.specs.Printer.{is_call}
 use borrow.Author.Rules.{rules}
 use Rattle.printer_input.proofs.addressed.Statement.{statement}
 use Rattle.printer_input.proofs.addressed.Tie as tie
 
 -- the test is the definition's
-told : (c : tie.After-is-call) → isCall (classOf c.before.before.args.header.fc) ≡ c.is_call.result
-told c = ap isCall (sym c.before.before.requires.0) ∙ sym c.is_call.ensures
+told : (c : tie.After-is-call) → is_call (class_of c.before.before.args.header.fc) ≡ c.is_call.result
+told c = ap is_call (sym c.before.before.requires.0) ∙ sym c.is_call.ensures
 
 is-call-requires : tie.Need-is-call-requires
 is-call-requires c κs = search rules

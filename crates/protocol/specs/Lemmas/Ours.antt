@@ -9,16 +9,16 @@ use Rattle.fdl.specs.declared.reading.Reading.TheVariants as telegram-reading
 use Rattle.book.specs.Contents.{Entry}
 use Rattle.protocol.specs.Line.{Passage, Sending, stop, Damage}
 use Rattle.protocol.specs.Slots.{Slots}
-use Rattle.protocol.specs.Bits.{sameBit}
-use Rattle.protocol.specs.Printer.{Ask, counted, isCallOf, receivedOf, Station, Deed, perform}
-use Rattle.protocol.specs.Controller.{nothing, gotFrom, gotIn, Move, requestBytes, askFor, again, afterJob, move_of}
+use Rattle.protocol.specs.Bits.{bits_agree}
+use Rattle.protocol.specs.Printer.{Ask, counted, is_call_of, received_of, Station, Deed, perform}
+use Rattle.protocol.specs.Controller.{nothing, got_from, got_in, Move, request_bytes, ask_for, again, after_job, move_of}
 use Rattle.protocol.specs.Download.{Given, hears, steps}
-use Rattle.protocol.specs.Words.{any_of, arrives, heard, namesStation, isWriteAsk, asked, requestsIn, writesHeard, FramingRefuses}
-use Rattle.protocol.specs.Course.{exchange, meets, leaves, oneArrives}
-use Rattle.protocol.specs.Lemmas.Replies.{got-nothing}
-use Rattle.protocol.specs.Lemmas.Hearing.{not-a-call, other-bit, renewedAt, replyAt, new-heard, again-heard}
-use Rattle.protocol.specs.Lemmas.Runs.{at, Ignores, Request, request-run, request-sendings, request-printer}
-use Rattle.protocol.specs.Lemmas.Groups.{AllOf, exchange-all, take-all-of, Block, block_in}
+use Rattle.protocol.specs.Words.{any_of, arrives, heard, names_station, is_write_ask, asked, requests_in, writes_heard, FramingRefuses}
+use Rattle.protocol.specs.Course.{exchange, meets, leaves, one_arrives}
+use Rattle.protocol.specs.Lemmas.Replies.{got_nothing}
+use Rattle.protocol.specs.Lemmas.Hearing.{not_a_call, other_bit, renewed_at, reply_at, new_heard, again_heard}
+use Rattle.protocol.specs.Lemmas.Runs.{at, Ignores, Request, request_run, request_sendings, request_printer}
+use Rattle.protocol.specs.Lemmas.Groups.{AllOf, exchange_all, take_all_of, Block, block_in}
 use Rattle.protocol.specs.Lemmas.Chain.{Link}
 use Rattle.protocol.specs.declared.controller.Controller as controller-type
 use Rattle.protocol.specs.declared.controller.Controller.TheVariants as controller
@@ -30,53 +30,53 @@ use Rattle.protocol.specs.declared.printer.Pending.{Pending}
 
 -- ---- damage: bytes that framing refuses
 
-refused-no-call : (r : telegram-type.Reading) → accepted r ≡ false → isCallOf r ≡ false
-refused-no-call telegram-reading.Confirmation e = refl
-refused-no-call (telegram-reading.Token da sa) e = refl
-refused-no-call (telegram-reading.Telegram f h start len) e = absurd (never (sym e))
-refused-no-call (telegram-reading.Refused r) e = refl
+refused_no_call : (r : telegram-type.Reading) → accepted r ≡ false → is_call_of r ≡ false
+refused_no_call telegram-reading.Confirmation e = refl
+refused_no_call (telegram-reading.Token da sa) e = refl
+refused_no_call (telegram-reading.Telegram f h start len) e = absurd (never (sym e))
+refused_no_call (telegram-reading.Refused r) e = refl
 
-refused-nothing : (c : Settings) (s : List ℕ) (r : telegram-type.Reading) → accepted r ≡ false → gotFrom c s r ≡ nothing
-refused-nothing c s telegram-reading.Confirmation e = absurd (never (sym e))
-refused-nothing c s (telegram-reading.Token da sa) e = absurd (never (sym e))
-refused-nothing c s (telegram-reading.Telegram f h start len) e = absurd (never (sym e))
-refused-nothing c s (telegram-reading.Refused r) e = refl
+refused_nothing : (c : Settings) (s : List ℕ) (r : telegram-type.Reading) → accepted r ≡ false → got_from c s r ≡ nothing
+refused_nothing c s telegram-reading.Confirmation e = absurd (never (sym e))
+refused_nothing c s (telegram-reading.Token da sa) e = absurd (never (sym e))
+refused_nothing c s (telegram-reading.Telegram f h start len) e = absurd (never (sym e))
+refused_nothing c s (telegram-reading.Refused r) e = refl
 
-pub got-bad : (c : Settings) (s : List ℕ) → FramingRefuses s → gotIn c s ≡ nothing
-unfolding gotIn
-got-bad c s e = refused-nothing c s (telegram.read_of s) e
+pub got_bad : (c : Settings) (s : List ℕ) → FramingRefuses s → got_in c s ≡ nothing
+unfolding got_in
+got_bad c s e = refused_nothing c s (telegram.read_of s) e
 
 pub ignores : (g : Given) → Ignores (hears g) (steps g) FramingRefuses
 unfolding move_of
 ignores g =
     record {
-      deaf = λ x s e. rw (not-a-call g.diagnosis (get_or g.notYet x.printer.writes 0) s x (refused-no-call (telegram.read_of s) e));
-      blind = λ o s e. rw (got-bad g.settings s e, got-nothing g.settings);
+      deaf = λ x s e. rw (not_a_call g.diagnosis (get_or g.not_yet x.printer.writes 0) s x (refused_no_call (telegram.read_of s) e));
+      blind = λ o s e. rw (got_bad g.settings s e, got_nothing g.settings);
     }
 
 -- ---- the words of one request
 
-pub heard-arrives : (a : ℕ) (q : List ℕ) → namesStation a (telegram.read_of q) ≡ true → (l : List Sending) → AllOf q l → any_of (heard a) l ≡ oneArrives l
+pub heard_arrives : (a : ℕ) (q : List ℕ) → names_station a (telegram.read_of q) ≡ true → (l : List Sending) → AllOf q l → any_of (heard a) l ≡ one_arrives l
 unfolding heard
-heard-arrives a q n [] h = refl
-heard-arrives a q n (s ∷ l) h = rw (h.0, n, heard-arrives a q n l h.1, and-true (arrives s.passage))
+heard_arrives a q n [] h = refl
+heard_arrives a q n (s ∷ l) h = rw (h.0, n, heard_arrives a q n l h.1, and_true (arrives s.passage))
   where
-    and-true : (b : Bool) → (b and true) ≡ b
-    and-true true = refl
-    and-true false = refl
+    and_true : (b : Bool) → (b and true) ≡ b
+    and_true true = refl
+    and_true false = refl
 
-write-counted : (a : ℕ) (q : List ℕ) → namesStation a (telegram.read_of q) ≡ true → (l : List Sending) → AllOf q l
-    → writesHeard a l ≡ pick (isWriteAsk (asked q) and oneArrives l) 1 0
-unfolding requestsIn
-write-counted a q n [] h = by (isWriteAsk (asked q))
+write_counted : (a : ℕ) (q : List ℕ) → names_station a (telegram.read_of q) ≡ true → (l : List Sending) → AllOf q l
+    → writes_heard a l ≡ pick (is_write_ask (asked q) and one_arrives l) 1 0
+unfolding requests_in
+write_counted a q n [] h = by (is_write_ask (asked q))
   where
     by : (b : Bool) → ◌≡◌ {A = ℕ} 0 (pick (b and false) 1 0)
     by true = refl
     by false = refl
-write-counted a q n (s ∷ l) h =
+write_counted a q n (s ∷ l) h =
     let one : Block q (s ∷ l) [] = record { some = omega arith; same = h; apart = tt } in
-    let e : requestsIn (s ∷ l) ≡ (s ∷ l) ∷ [] = ap requestsIn (sym (append-nil (s ∷ l))) ∙ block_in q (s ∷ l) [] one in
-    rw (e, heard-arrives a q n (s ∷ l) h, h.0)
+    let e : requests_in (s ∷ l) ≡ (s ∷ l) ∷ [] = ap requests_in (sym (append-nil (s ∷ l))) ∙ block_in q (s ∷ l) [] one in
+    rw (e, heard_arrives a q n (s ∷ l) h, h.0)
 
 -- ---- the printer between two requests of ours, and the next one
 
@@ -99,27 +99,27 @@ module _ (g : Given) (boarding : Bool) where
       }
 
   abbrev pub New : (fcb : Bool) → (last : Bool) (sa : ℕ) → Type 0
-  New b f s = (eqb g.settings.controller s and sameBit b f) ≡ false
+  New b f s = (eqb g.settings.controller s and bits_agree b f) ≡ false
 
   -- after a call of ours the next one, with the other FCB, is new
-  pub next-new : (b : Bool) → New (not b) b g.settings.controller
-  next-new b = rw (eq-eqb g.settings.controller g.settings.controller refl, other-bit b)
+  pub next_new : (b : Bool) → New (not b) b g.settings.controller
+  next_new b = rw (eq-eqb g.settings.controller g.settings.controller refl, other_bit b)
 
   abbrev pub deed : Pending → (writes : ℕ) → Slots → Ask → Deed
-  deed p n ss ask = perform boarding (get_or g.notYet n 0) p ss n ask
+  deed p n ss ask = perform boarding (get_or g.not_yet n 0) p ss n ask
 
   -- the request for a job at template suc i, the head of what is left of the book
   module _ (i : ℕ) (t : Entry) (ts : List Entry) (there : drop i g.book ≡ t ∷ ts) (j : Job) (b : Bool) (ask : Ask)
-      (call : receivedOf g.settings.printer (requestBytes g.settings j b t) ≡ counted b g.settings.controller ask)
+      (call : received_of g.settings.printer (request_bytes g.settings j b t) ≡ counted b g.settings.controller ask)
       (f : Bool) (s h : ℕ) (p : Pending) (n : ℕ) (ss : Slots) (u : List ℕ) (new : New b f s) where
     abbrev before : Station
     before = stand f s h p n ss u
 
     abbrev pub reply : List ℕ
-    reply = replyAt g before g.settings.controller ask
+    reply = reply_at g before g.settings.controller ask
 
     abbrev pub afterwards : Station
-    afterwards = renewedAt g before b g.settings.controller ask
+    afterwards = renewed_at g before b g.settings.controller ask
 
     abbrev asks : ℕ → controller-type.Controller
     asks l = controller.Asking (suc i) j b l
@@ -128,58 +128,58 @@ module _ (g : Given) (boarding : Bool) where
     left_over = let e : suc i - 1 ≡ i = omega arith in rw e there
 
     -- what comes of a reply
-    pub taken : (l : ℕ) (r : List ℕ) → steps g (asks l) r ≡ afterJob g.settings (suc i) j b l (t ∷ ts) (gotIn g.settings r)
+    pub taken : (l : ℕ) (r : List ℕ) → steps g (asks l) r ≡ after_job g.settings (suc i) j b l (t ∷ ts) (got_in g.settings r)
     unfolding move_of
     taken l r = rw left_over
 
-    no-reply : (r : Job) (l : ℕ) → afterJob g.settings (suc i) r b l (t ∷ ts) nothing ≡ again g.settings (suc i) r b l (t ∷ ts)
-    no-reply job.Write l = refl
-    no-reply (job.Poll left) l = refl
+    no_reply : (r : Job) (l : ℕ) → after_job g.settings (suc i) r b l (t ∷ ts) nothing ≡ again g.settings (suc i) r b l (t ∷ ts)
+    no_reply job.Write l = refl
+    no_reply (job.Poll left) l = refl
 
     missed : (l : ℕ) → steps g (asks l) [] ≡ again g.settings (suc i) j b l (t ∷ ts)
-    missed l = taken l [] ∙ rw (got-nothing g.settings) (no-reply j l)
+    missed l = taken l [] ∙ rw (got_nothing g.settings) (no_reply j l)
 
-    request : (m : Move) → ((l : ℕ) → afterJob g.settings (suc i) j b l (t ∷ ts) (gotIn g.settings reply) ≡ m)
-        → Request (hears g) (steps g) (requestBytes g.settings j b t) reply asks m (stop (ending.NoAnswer (suc i))) afterwards
+    request : (m : Move) → ((l : ℕ) → after_job g.settings (suc i) j b l (t ∷ ts) (got_in g.settings reply) ≡ m)
+        → Request (hears g) (steps g) (request_bytes g.settings j b t) reply asks m (stop (ending.NoAnswer (suc i))) afterwards
     request m e =
         record {
           repeats = λ l. missed (suc l);
           gives_up = missed 0;
-          takes-up = λ l. taken l reply ∙ e l;
-          hears-again = again-heard g before (requestBytes g.settings j b t) b g.settings.controller ask call;
+          takes_up = λ l. taken l reply ∙ e l;
+          hears_again = again_heard g before (request_bytes g.settings j b t) b g.settings.controller ask call;
         }
 
     abbrev pub sendings : List Passage → List Sending
-    sendings l = exchange g.settings.repeats (requestBytes g.settings j b t) reply l
+    sendings l = exchange g.settings.repeats (request_bytes g.settings j b t) reply l
 
     -- The request with all its repeats: what it leads to, and the printer's count of writes on the way.
-    module _ (names : namesStation g.settings.printer (telegram.read_of (requestBytes g.settings j b t)) ≡ true)
-        (counts : (deed p n ss ask).writes ≡ n + pick (isWriteAsk (asked (requestBytes g.settings j b t))) 1 0)
-        (m : Move) (takes : (l : ℕ) → afterJob g.settings (suc i) j b l (t ∷ ts) (gotIn g.settings reply) ≡ m) where
-      pub asked-for : (l : List Passage) → Damage FramingRefuses l → (k : ℕ)
-          → Link g g.settings.printer (at l before (askFor g.settings (suc i) j b g.settings.repeats (t ∷ ts)) k) (sendings l)
-          (at (leaves g.settings.repeats l) (pick (oneArrives (sendings l)) afterwards before)
+    module _ (names : names_station g.settings.printer (telegram.read_of (request_bytes g.settings j b t)) ≡ true)
+        (counts : (deed p n ss ask).writes ≡ n + pick (is_write_ask (asked (request_bytes g.settings j b t))) 1 0)
+        (m : Move) (takes : (l : ℕ) → after_job g.settings (suc i) j b l (t ∷ ts) (got_in g.settings reply) ≡ m) where
+      pub asked_for : (l : List Passage) → Damage FramingRefuses l → (k : ℕ)
+          → Link g g.settings.printer (at l before (ask_for g.settings (suc i) j b g.settings.repeats (t ∷ ts)) k) (sendings l)
+          (at (leaves g.settings.repeats l) (pick (one_arrives (sendings l)) afterwards before)
           (pick (meets g.settings.repeats l) m (stop (ending.NoAnswer (suc i)))) (k + length (sendings l)))
-      asked-for l d k =
-          let q : List ℕ = requestBytes g.settings j b t in
-          let hear-it = new-heard g before q b g.settings.controller ask call new in
+      asked_for l d k =
+          let q : List ℕ = request_bytes g.settings j b t in
+          let hear_it = new_heard g before q b g.settings.controller ask call new in
           record {
-            ran = request-run (ignores g) (request m takes) g.settings.repeats l d before hear-it k;
-            sent = request-sendings (ignores g) (request m takes) g.settings.repeats l d before hear-it k;
+            ran = request_run (ignores g) (request m takes) g.settings.repeats l d before hear_it k;
+            sent = request_sendings (ignores g) (request m takes) g.settings.repeats l d before hear_it k;
             counts = λ v le.
-                ap (λ (x : Station). x.printer.writes) (request-printer (ignores g) (request m takes) g.settings.repeats l d before hear-it k v le)
-                ∙ by (oneArrives (take v (sendings l)))
-                ∙ ap (λ (w : ℕ). n + w) (sym (write-counted g.settings.printer q names (take v (sendings l)) (take-all-of q v (sendings l) (exchange-all g.settings.repeats q reply l))));
+                ap (λ (x : Station). x.printer.writes) (request_printer (ignores g) (request m takes) g.settings.repeats l d before hear_it k v le)
+                ∙ by (one_arrives (take v (sendings l)))
+                ∙ ap (λ (w : ℕ). n + w) (sym (write_counted g.settings.printer q names (take v (sendings l)) (take_all_of q v (sendings l) (exchange_all g.settings.repeats q reply l))));
           }
         where
-          zero-by : (w : Bool) → n ≡ n + pick (w and false) 1 0
-          zero-by true = sym (add-zero n)
-          zero-by false = sym (add-zero n)
+          zero_by : (w : Bool) → n ≡ n + pick (w and false) 1 0
+          zero_by true = sym (add-zero n)
+          zero_by false = sym (add-zero n)
 
-          one-by : (w : Bool) → n + pick w 1 0 ≡ n + pick (w and true) 1 0
-          one-by true = refl
-          one-by false = refl
+          one_by : (w : Bool) → n + pick w 1 0 ≡ n + pick (w and true) 1 0
+          one_by true = refl
+          one_by false = refl
 
-          by : (o : Bool) → (pick o afterwards before).printer.writes ≡ n + pick (isWriteAsk (asked (requestBytes g.settings j b t)) and o) 1 0
-          by true = counts ∙ one-by (isWriteAsk (asked (requestBytes g.settings j b t)))
-          by false = zero-by (isWriteAsk (asked (requestBytes g.settings j b t)))
+          by : (o : Bool) → (pick o afterwards before).printer.writes ≡ n + pick (is_write_ask (asked (request_bytes g.settings j b t)) and o) 1 0
+          by true = counts ∙ one_by (is_write_ask (asked (request_bytes g.settings j b t)))
+          by false = zero_by (is_write_ask (asked (request_bytes g.settings j b t)))

@@ -4,16 +4,16 @@ use Rattle.std.proofs.Common.{sym, ap, ◌∙◌, append_assoc, arith, length-ap
 use Rattle.std.proofs.Math.Decide.{dec_lt}
 use Rattle.std.proofs.lemmas.List.{take-append-le, drop-append-le}
 use Rattle.std.proofs.Math.Seq.{take-append-add}
-use Rattle.octets.specs.Front.{over, heldBehind, held-length}
-use Rattle.protocol.specs.Slots.{Slots, slotIn, written, filled, Sized}
+use Rattle.octets.specs.Front.{over, held_behind, held_length}
+use Rattle.protocol.specs.Slots.{Slots, slot_in, written, filled, Sized}
 
 -- q in l behind the first n bytes
 module _ (n : ℕ) (q l : List ℕ) (fits : n + length q ≤ length l) where
   abbrev rest : List ℕ
   rest = drop (n + length q) l
 
-  held : heldBehind n q l ≡ (take n l ++ q) ++ rest
-  unfolding heldBehind
+  held : held_behind n q l ≡ (take n l ++ q) ++ rest
+  unfolding held_behind
   held = simp (le-leb _ _ fits)
 
   front_long : length (take n l) ≡ n
@@ -23,8 +23,8 @@ module _ (n : ℕ) (q l : List ℕ) (fits : n + length q ≤ length l) where
   both_long = rw (length-append, front_long)
 
   -- bytes that end before it
-  pub before-held : (p k : ℕ) → p + k ≤ n → take k (drop p (heldBehind n q l)) ≡ take k (drop p l)
-  before-held p k h =
+  pub before_held : (p k : ℕ) → p + k ≤ n → take k (drop p (held_behind n q l)) ≡ take k (drop p l)
+  before_held p k h =
       ap (λ (m : List ℕ). take k (drop p m)) (held ∙ append_assoc (take n l) q rest)
       ∙ same (q ++ rest)
       ∙ sym (ap (λ (m : List ℕ). take k (drop p m)) (sym (take-append-drop n l)) ∙ same (drop n l))
@@ -35,15 +35,15 @@ module _ (n : ℕ) (q l : List ℕ) (fits : n + length q ≤ length l) where
           ∙ take-append-le k (drop p (take n l)) y (omega (arith, front_long, length-drop p (take n l)))
 
   -- bytes behind it
-  pub behind-held : (p : ℕ) → n + length q ≤ p → drop p (heldBehind n q l) ≡ drop p l
-  behind-held p h =
+  pub behind_held : (p : ℕ) → n + length q ≤ p → drop p (held_behind n q l) ≡ drop p l
+  behind_held p h =
       let d : ℕ = p - (n + length q) in
       let e : p ≡ n + length q + d = omega arith in
-      rw (e, ← drop-drop d (n + length q) (heldBehind n q l), ← drop-drop d (n + length q) l, held)
+      rw (e, ← drop-drop d (n + length q) (held_behind n q l), ← drop-drop d (n + length q) l, held)
       (ap (drop d) (drop_at (take n l ++ q) rest (n + length q) both_long))
 
   -- and q itself, with what follows it up to k
-  pub at_held : (k : ℕ) → length q ≤ k → take k (drop n (heldBehind n q l)) ≡ over q (take k (drop n l))
+  pub at_held : (k : ℕ) → length q ≤ k → take k (drop n (held_behind n q l)) ≡ over q (take k (drop n l))
   at_held k h =
       let d : ℕ = k - length q in
       let e : k ≡ length q + d = omega arith in
@@ -60,19 +60,19 @@ module _ (s : Slots) (z : Sized s) (i : ℕ) (body : List ℕ) (slot : i ≤ 15)
   fits : 200 * i + length body ≤ length s.bodies
   fits = omega (arith, z.bodies)
 
-  pub written-sized : Sized (written i body s)
-  written-sized =
-      record { lengths = length-set s.lengths i (length body) ∙ z.lengths; bodies = held-length (200 * i) body s.bodies fits ∙ z.bodies }
+  pub written_sized : Sized (written i body s)
+  written_sized =
+      record { lengths = length-set s.lengths i (length body) ∙ z.lengths; bodies = held_length (200 * i) body s.bodies fits ∙ z.bodies }
 
-  pub slot-written : slotIn (written i body s) i ≡ filled body (slotIn s i)
-  slot-written =
+  pub slot_written : slot_in (written i body s) i ≡ filled body (slot_in s i)
+  slot_written =
       rw (get_or-set_same s.lengths i (length body) 0 (omega (arith, z.lengths)), at_held (200 * i) body s.bodies fits 200 short)
 
-  pub slot_kept : (j : ℕ) → (j ≡ i → ⊥) → slotIn (written i body s) j ≡ slotIn s j
+  pub slot_kept : (j : ℕ) → (j ≡ i → ⊥) → slot_in (written i body s) j ≡ slot_in s j
   slot_kept j ne = rw (get_or-set_other s.lengths i j (length body) 0 ne, bytes (dec_lt j i))
     where
-      bytes : Dec (j < i) → take 200 (drop (200 * j) (heldBehind (200 * i) body s.bodies)) ≡ take 200 (drop (200 * j) s.bodies)
-      bytes (yes h) = before-held (200 * i) body s.bodies fits (200 * j) 200 (omega arith)
+      bytes : Dec (j < i) → take 200 (drop (200 * j) (held_behind (200 * i) body s.bodies)) ≡ take 200 (drop (200 * j) s.bodies)
+      bytes (yes h) = before_held (200 * i) body s.bodies fits (200 * j) 200 (omega arith)
       bytes (no h) =
           let past : i < j = omega (arith, ne) in
-          ap (take 200) (behind-held (200 * i) body s.bodies fits (200 * j) (omega arith))
+          ap (take 200) (behind_held (200 * i) body s.bodies fits (200 * j) (omega arith))

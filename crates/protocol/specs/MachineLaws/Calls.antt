@@ -5,26 +5,26 @@ use borrow.Author.Tests.{eqb-true, eqb-false, eq-eqb, ne_eqb}
 use Rattle.octets.specs.Choice.{and_left, and_right, never}
 use Rattle.function_code.specs.declared.code.Class.{Class}
 use Rattle.function_code.specs.declared.code.Class.TheVariants as class
-use Rattle.fdl.specs.Telegram.{checksumOf}
-use Rattle.fdl.specs.Writing.{core_of, telegramOf}
+use Rattle.fdl.specs.Telegram.{checksum_of}
+use Rattle.fdl.specs.Writing.{core_of, telegram_of}
 use Rattle.fdl.specs.declared.telegram.Header.{Header}
-use Rattle.protocol.specs.Bits.{sameBit}
-use Rattle.protocol.specs.Telegrams.{bareBytes}
-use Rattle.protocol.specs.Lemmas.Hearing.{stored-sent}
+use Rattle.protocol.specs.Bits.{bits_agree}
+use Rattle.protocol.specs.Telegrams.{bare_bytes}
+use Rattle.protocol.specs.Lemmas.Hearing.{stored_sent}
 use Rattle.protocol.specs.Printer as printer
-use Rattle.protocol.specs.Printer.{nothing, elsewhere, status, askIn, fcbOf, receivedOf, Station, Heard, dropHeld, isRepeat, saying, hear}
-use Rattle.protocol.specs.MachineLaws.Effects.{Framed, IsAnswer, bare, carrying, IsCall, opening, counted, uncounted, Calls, bit_of, Remembered, bareReply, Sent, Dropped}
+use Rattle.protocol.specs.Printer.{nothing, elsewhere, status, ask_in, fcb_of, received_of, Station, Heard, drop_held, is_repeat, saying, hear}
+use Rattle.protocol.specs.MachineLaws.Effects.{Framed, IsAnswer, bare, carrying, IsCall, opening, counted, uncounted, Calls, bit_of, Remembered, bare_reply, Sent, Dropped}
 use Rattle.protocol.specs.declared.printer.Printer.{Printer}
 
 -- ---- what is sent
 
 -- What is sent stands at the front of the buffer.
-pub sent-bytes : {x : Station} {bytes : List ℕ} {y : Heard} → Sent x bytes y → take y.reply y.station.buffer ≡ bytes
-sent-bytes {x} {bytes} e = rw (e.reply, e.buffer) (stored-sent bytes x.buffer)
+pub sent_bytes : {x : Station} {bytes : List ℕ} {y : Heard} → Sent x bytes y → take y.reply y.station.buffer ≡ bytes
+sent_bytes {x} {bytes} e = rw (e.reply, e.buffer) (stored_sent bytes x.buffer)
 
-pub bare-bytes : (to from n : ℕ) → bareBytes to from n ≡ bareReply to from n
-unfolding telegramOf core_of checksumOf
-bare-bytes to from n =
+pub bare_bytes_lem : (to from n : ℕ) → bare_bytes to from n ≡ bare_reply to from n
+unfolding telegram_of core_of checksum_of
+bare_bytes_lem to from n =
     let t : to + 0 ≡ to = omega arith in
     let f : from + 0 ≡ from = omega arith in
     let sum : to + 0 + (from + 0 + (n + 0)) ≡ to + from + n = omega arith in
@@ -32,18 +32,18 @@ bare-bytes to from n =
 
 -- ---- a repeat, by the remembered SA and FCB
 
-bit-told : (n : ℕ) (b : Bool) → sameBit (eqb (n % 2) 1) b ≡ true → n % 2 ≡ bit_of b
-bit-told n b e = by (eqb (n % 2) 1) refl b e
+bit_told : (n : ℕ) (b : Bool) → bits_agree (eqb (n % 2) 1) b ≡ true → n % 2 ≡ bit_of b
+bit_told n b e = by (eqb (n % 2) 1) refl b e
   where
-    by : (t : Bool) → eqb (n % 2) 1 ≡ t → (c : Bool) → sameBit t c ≡ true → n % 2 ≡ bit_of c
+    by : (t : Bool) → eqb (n % 2) 1 ≡ t → (c : Bool) → bits_agree t c ≡ true → n % 2 ≡ bit_of c
     by true q true k = eqb-true (n % 2) 1 q
     by true q false k = absurd (never k)
     by false q true k = absurd (never k)
     by false q false k = omega (arith, eqb-false (n % 2) 1 q)
 
-bit-same : (n : ℕ) (b : Bool) → n % 2 ≡ bit_of b → sameBit (eqb (n % 2) 1) b ≡ true
-bit-same n true e = rw (eq-eqb (n % 2) 1 e)
-bit-same n false e = let z : eqb (n % 2) 1 ≡ false = ne_eqb (n % 2) 1 (λ q. omega arith) in rw z
+bit_same : (n : ℕ) (b : Bool) → n % 2 ≡ bit_of b → bits_agree (eqb (n % 2) 1) b ≡ true
+bit_same n true e = rw (eq-eqb (n % 2) 1 e)
+bit_same n false e = let z : eqb (n % 2) 1 ≡ false = ne_eqb (n % 2) 1 (λ q. omega arith) in rw z
 
 pub bit_kept : (n : ℕ) → bit_of (eqb (n % 2) 1) ≡ n % 2
 bit_kept n = by (eqb (n % 2) 1) refl
@@ -53,53 +53,53 @@ bit_kept n = by (eqb (n % 2) 1) refl
     by false q = omega (arith, eqb-false (n % 2) 1 q)
 
 module _ (p : Printer) (h : Header) where
-  remembered : isRepeat p (fcbOf h.fc) h.sa ≡ true → Remembered p h
+  remembered : is_repeat p (fcb_of h.fc) h.sa ≡ true → Remembered p h
   remembered e =
       let a : Bool = eqb h.sa p.sa in
-      let b : Bool = sameBit (fcbOf h.fc) p.fcb in
-      record { source = eqb-true h.sa p.sa (and_left a b e); bit = bit-told (h.fc / 32) p.fcb (and_right a b e) }
+      let b : Bool = bits_agree (fcb_of h.fc) p.fcb in
+      record { source = eqb-true h.sa p.sa (and_left a b e); bit = bit_told (h.fc / 32) p.fcb (and_right a b e) }
 
-  pub repeats : Remembered p h → isRepeat p (fcbOf h.fc) h.sa ≡ true
-  repeats r = rw (eq-eqb h.sa p.sa r.source, bit-same (h.fc / 32) p.fcb r.bit)
+  pub repeats : Remembered p h → is_repeat p (fcb_of h.fc) h.sa ≡ true
+  repeats r = rw (eq-eqb h.sa p.sa r.source, bit_same (h.fc / 32) p.fcb r.bit)
 
-  pub not-repeated : (Remembered p h → ⊥) → isRepeat p (fcbOf h.fc) h.sa ≡ false
-  not-repeated other = by (isRepeat p (fcbOf h.fc) h.sa) refl
+  pub not_repeated : (Remembered p h → ⊥) → is_repeat p (fcb_of h.fc) h.sa ≡ false
+  not_repeated other = by (is_repeat p (fcb_of h.fc) h.sa) refl
     where
-      by : (b : Bool) → isRepeat p (fcbOf h.fc) h.sa ≡ b → b ≡ false
+      by : (b : Bool) → is_repeat p (fcb_of h.fc) h.sa ≡ b → b ≡ false
       by true e = absurd (other (remembered e))
       by false e = refl
 
 -- ---- what a telegram is to the printer, by its class and its address
 
 module _ (x : Station) (s : List ℕ) {h : Header} where
-  pub opening-received : Calls x s class.Opening h → receivedOf x.printer.address s ≡ printer.opening h.sa (askIn s h.fc)
-  unfolding receivedOf
-  opening-received c = rw (c.framed.read, c.framed.code, eq-eqb h.da x.printer.address c.own)
+  pub opening_received : Calls x s class.Opening h → received_of x.printer.address s ≡ printer.opening h.sa (ask_in s h.fc)
+  unfolding received_of
+  opening_received c = rw (c.framed.read, c.framed.code, eq-eqb h.da x.printer.address c.own)
 
-  pub counted-received : Calls x s class.Counted h → receivedOf x.printer.address s ≡ printer.counted (fcbOf h.fc) h.sa (askIn s h.fc)
-  unfolding receivedOf
-  counted-received c = rw (c.framed.read, c.framed.code, eq-eqb h.da x.printer.address c.own)
+  pub counted_received : Calls x s class.Counted h → received_of x.printer.address s ≡ printer.counted (fcb_of h.fc) h.sa (ask_in s h.fc)
+  unfolding received_of
+  counted_received c = rw (c.framed.read, c.framed.code, eq-eqb h.da x.printer.address c.own)
 
-  uncounted-received : Calls x s class.Uncounted h → (h.fc % 16 ≡ 9 → ⊥) → receivedOf x.printer.address s ≡ printer.uncounted
-  unfolding receivedOf
-  uncounted-received c n = rw (c.framed.read, c.framed.code, eq-eqb h.da x.printer.address c.own, ne_eqb (h.fc % 16) 9 n)
+  uncounted_received : Calls x s class.Uncounted h → (h.fc % 16 ≡ 9 → ⊥) → received_of x.printer.address s ≡ printer.uncounted
+  unfolding received_of
+  uncounted_received c n = rw (c.framed.read, c.framed.code, eq-eqb h.da x.printer.address c.own, ne_eqb (h.fc % 16) 9 n)
 
-  status-received : Calls x s class.Uncounted h → h.fc % 16 ≡ 9 → receivedOf x.printer.address s ≡ status h.sa
-  unfolding receivedOf
-  status-received c e = rw (c.framed.read, c.framed.code, eq-eqb h.da x.printer.address c.own, eq-eqb (h.fc % 16) 9 e)
+  status_received : Calls x s class.Uncounted h → h.fc % 16 ≡ 9 → received_of x.printer.address s ≡ status h.sa
+  unfolding received_of
+  status_received c e = rw (c.framed.read, c.framed.code, eq-eqb h.da x.printer.address c.own, eq-eqb (h.fc % 16) 9 e)
 
-  elsewhere-received : {k : Class} → IsCall k → Framed s k h → (h.da ≡ x.printer.address → ⊥) → receivedOf x.printer.address s ≡ elsewhere
-  unfolding receivedOf
-  elsewhere-received opening c n = rw (c.read, c.code, ne_eqb h.da x.printer.address n)
-  elsewhere-received counted c n = rw (c.read, c.code, ne_eqb h.da x.printer.address n)
-  elsewhere-received uncounted c n = rw (c.read, c.code, ne_eqb h.da x.printer.address n)
+  elsewhere_received : {k : Class} → IsCall k → Framed s k h → (h.da ≡ x.printer.address → ⊥) → received_of x.printer.address s ≡ elsewhere
+  unfolding received_of
+  elsewhere_received opening c n = rw (c.read, c.code, ne_eqb h.da x.printer.address n)
+  elsewhere_received counted c n = rw (c.read, c.code, ne_eqb h.da x.printer.address n)
+  elsewhere_received uncounted c n = rw (c.read, c.code, ne_eqb h.da x.printer.address n)
 
-  answer-received : {k : Class} → IsAnswer k → Framed s k h → receivedOf x.printer.address s ≡ nothing
-  unfolding receivedOf
-  answer-received bare c = rw (c.read, c.code)
-  answer-received carrying c = rw (c.read, c.code)
+  answer_received : {k : Class} → IsAnswer k → Framed s k h → received_of x.printer.address s ≡ nothing
+  unfolding received_of
+  answer_received bare c = rw (c.read, c.code)
+  answer_received carrying c = rw (c.read, c.code)
 
-dropped : (x : Station) (bytes : List ℕ) → Dropped x bytes (saying (dropHeld x.printer) x.slots x.buffer bytes)
+dropped : (x : Station) (bytes : List ℕ) → Dropped x bytes (saying (drop_held x.printer) x.slots x.buffer bytes)
 dropped x bytes =
     record {
       same = record { address = refl; boarding = refl };
@@ -114,29 +114,29 @@ dropped x bytes =
 
 -- ---- the laws
 
-module _ (diag : List ℕ) (notYet : ℕ) (x : Station) (s : List ℕ) {h : Header} where
+module _ (diag : List ℕ) (not_yet : ℕ) (x : Station) (s : List ℕ) {h : Header} where
   -- An answer, to whatever station, changes nothing and gets nothing.
-  pub answer-unheard : {k : Class} → IsAnswer k → Framed s k h → hear diag notYet s x ≡ record { station = x; reply = 0 }
+  pub answer_unheard : {k : Class} → IsAnswer k → Framed s k h → hear diag not_yet s x ≡ record { station = x; reply = 0 }
   unfolding hear
-  answer-unheard a c = rw (answer-received x s a c)
+  answer_unheard a c = rw (answer_received x s a c)
 
   -- A call to another station, 127 too, gets nothing, drops the held reply and changes nothing else.
-  pub call-elsewhere : {k : Class} → IsCall k → Framed s k h → (h.da ≡ x.printer.address → ⊥) → Dropped x [] (hear diag notYet s x)
+  pub call_elsewhere : {k : Class} → IsCall k → Framed s k h → (h.da ≡ x.printer.address → ⊥) → Dropped x [] (hear diag not_yet s x)
   unfolding hear
-  call-elsewhere a c n = rw (elsewhere-received x s a c n) (dropped x [])
+  call_elsewhere a c n = rw (elsewhere_received x s a c n) (dropped x [])
 
   -- So does an uncounted call,
-  pub uncounted-call : Calls x s class.Uncounted h → (h.fc % 16 ≡ 9 → ⊥) → Dropped x [] (hear diag notYet s x)
+  pub uncounted_call : Calls x s class.Uncounted h → (h.fc % 16 ≡ 9 → ⊥) → Dropped x [] (hear diag not_yet s x)
   unfolding hear
-  uncounted-call c n = rw (uncounted-received x s c n) (dropped x [])
+  uncounted_call c n = rw (uncounted_received x s c n) (dropped x [])
 
   -- but FDL status, function 9, gets bare function 0, to its SA.
-  pub fdl-status : Calls x s class.Uncounted h → h.fc % 16 ≡ 9 → Dropped x (bareReply h.sa x.printer.address 0) (hear diag notYet s x)
+  pub fdl_status : Calls x s class.Uncounted h → h.fc % 16 ≡ 9 → Dropped x (bare_reply h.sa x.printer.address 0) (hear diag not_yet s x)
   unfolding hear
-  fdl-status c e = rw (status-received x s c e, bare-bytes h.sa x.printer.address 0) (dropped x (bareReply h.sa x.printer.address 0))
+  fdl_status c e = rw (status_received x s c e, bare_bytes_lem h.sa x.printer.address 0) (dropped x (bare_reply h.sa x.printer.address 0))
 
   -- A counted call whose SA and FCB are those remembered gets the held reply, and changes nothing. (Any other is new: what it
   -- does is said in `Answers`.)
-  pub repeat-held : Calls x s class.Counted h → Remembered x.printer h → hear diag notYet s x ≡ record { station = x; reply = x.printer.held }
+  pub repeat_held : Calls x s class.Counted h → Remembered x.printer h → hear diag not_yet s x ≡ record { station = x; reply = x.printer.held }
   unfolding hear
-  repeat-held c r = rw (counted-received x s c, repeats x.printer h r)
+  repeat_held c r = rw (counted_received x s c, repeats x.printer h r)

@@ -5,11 +5,11 @@ use Rattle.std.specs.Prelude.{ℕ, zero, suc, ◌+◌, ◌%◌, ◌/◌, ◌≤�
 use Rattle.octets.specs.Front.{over}
 use Rattle.octets.specs.Part.{part_of}
 use Rattle.octets.specs.declared.Mode.TheVariants as mode
-use Rattle.function_code.specs.Code.{classOf}
+use Rattle.function_code.specs.Code.{class_of}
 use Rattle.function_code.specs.declared.code.Class.{Class}
 use Rattle.function_code.specs.declared.code.Class.TheVariants as class
 use Rattle.fdl.specs.Reading as telegram
-use Rattle.fdl.specs.Writing.{telegramOf}
+use Rattle.fdl.specs.Writing.{telegram_of}
 use Rattle.fdl.specs.declared.reading.Reading.TheVariants as telegram-reading
 use Rattle.fdl.specs.declared.telegram.Format.{Format}
 use Rattle.fdl.specs.declared.telegram.Format.TheVariants.{Sd2}
@@ -37,7 +37,7 @@ pub record Framed (s : List ℕ) (k : Class) (h : Header) : Type 0 where
   pub start : ℕ
   pub len : ℕ
   pub read : telegram.read_of s ≡ telegram-reading.Telegram format h start len
-  pub code : classOf h.fc ≡ k
+  pub code : class_of h.fc ≡ k
 
 -- the classes of answers, and of calls
 pub data IsAnswer : Class → Type 0 where
@@ -100,28 +100,28 @@ pub record Fails (s : List ℕ) (h : Header) (k : ℕ) : Type 0 where
 
 -- ---- what is sent: station type 0 in every reply
 
-abbrev pub shortConfirmation : List ℕ
-shortConfirmation = 0xE5 ∷ []
+abbrev pub short_confirmation : List ℕ
+short_confirmation = 0xE5 ∷ []
 
 -- SD1 DA SA FC FCS ED
-abbrev pub bareReply : (to from function : ℕ) → List ℕ
-bareReply to from function = 0x10 ∷ to ∷ from ∷ function ∷ (to + from + function) % 256 ∷ 0x16 ∷ []
+abbrev pub bare_reply : (to from function : ℕ) → List ℕ
+bare_reply to from function = 0x10 ∷ to ∷ from ∷ function ∷ (to + from + function) % 256 ∷ 0x16 ∷ []
 
 -- data as function 8 in SD2, with both access points
-abbrev pub dataReply : (to from dsap ssap : ℕ) → (user : List ℕ) → List ℕ
-dataReply to from dsap ssap user =
-    telegramOf Sd2 (record { da = to; sa = from; fc = 8; dsap = Present dsap; ssap = Present ssap }) user
+abbrev pub data_reply : (to from dsap ssap : ℕ) → (user : List ℕ) → List ℕ
+data_reply to from dsap ssap user =
+    telegram_of Sd2 (record { da = to; sa = from; fc = 8; dsap = Present dsap; ssap = Present ssap }) user
 
-abbrev pub diagnosisReply : (to from : ℕ) → (diag : List ℕ) → List ℕ
-diagnosisReply to from diag = dataReply to from 62 60 diag
+abbrev pub diagnosis_reply : (to from : ℕ) → (diag : List ℕ) → List ℕ
+diagnosis_reply to from diag = data_reply to from 62 60 diag
 
 -- 5F with slot, index and length, or DF with decode 128 and both codes
-abbrev pub resultData : Outcome → List ℕ
-resultData (outcome.Positive slot index len) = 0x5F ∷ slot ∷ index ∷ len ∷ []
-resultData (outcome.Negative code1 code2) = 0xDF ∷ 128 ∷ code1 ∷ code2 ∷ []
+abbrev pub result_data : Outcome → List ℕ
+result_data (outcome.Positive slot index len) = 0x5F ∷ slot ∷ index ∷ len ∷ []
+result_data (outcome.Negative code1 code2) = 0xDF ∷ 128 ∷ code1 ∷ code2 ∷ []
 
-abbrev pub resultReply : (to from : ℕ) → Outcome → List ℕ
-resultReply to from o = dataReply to from 51 51 (resultData o)
+abbrev pub result_reply : (to from : ℕ) → Outcome → List ℕ
+result_reply to from o = data_reply to from 51 51 (result_data o)
 
 -- these bytes stand at the front of the buffer and are sent, none where there are none; the rest of the buffer stays
 pub record Sent (x : Station) (bytes : List ℕ) (y : Heard) : Type 0 where
@@ -181,7 +181,7 @@ Replied {x} {s} {h} (new n) bytes y = Told x h bytes y
 
 -- its result and the slots then: the first that fits decides
 pub data Judged (boarding : Bool) (slot index : ℕ) (body : List ℕ) (before : Slots) : Outcome → Slots → Type 0 where
-  other-slot : (slot ≡ 1 → ⊥) → Judged boarding slot index body before (outcome.Negative 0xB2 0) before
+  other_slot : (slot ≡ 1 → ⊥) → Judged boarding slot index body before (outcome.Negative 0xB2 0) before
   beyond : slot ≡ 1 → 15 < index → Judged boarding slot index body before (outcome.Negative 0xB0 0) before
   too_long : slot ≡ 1 → index ≤ 15 → 200 < length body → Judged boarding slot index body before (outcome.Negative 0xB1 0) before
   guarded : slot ≡ 1 → index ≡ 7 → length body ≤ 200 → boarding ≡ true → Judged boarding slot index body before (outcome.Negative 0xB6 0) before
@@ -189,26 +189,26 @@ pub data Judged (boarding : Bool) (slot index : ℕ) (body : List ℕ) (before :
       → Judged boarding slot index body before (outcome.Positive slot index (length body)) (written index body before)
 
 -- after a write with no result pending: SC, and the result pending, with its number of "not yet"; one write more, staying at 255
-pub record Wrote (x : Station) (h : Header) (notYet slot index : ℕ) (body : List ℕ) (y : Heard) : Type 0 where
+pub record Wrote (x : Station) (h : Header) (not_yet slot index : ℕ) (body : List ℕ) (y : Heard) : Type 0 where
   pub outcome : Outcome
   pub slots : Slots
   pub judged : Judged x.printer.boarding slot index body x.slots outcome slots
-  pub renewed : Renewed x h (pending.Result outcome notYet) (min 255 (suc x.printer.writes)) slots shortConfirmation y
+  pub renewed : Renewed x h (pending.Result outcome not_yet) (min 255 (suc x.printer.writes)) slots short_confirmation y
 
 -- ---- what may become of the pending result, of the count of writes and of the slots
 
-pub data Becomes (notYet : ℕ) (s : List ℕ) (x : Station) : Pending → ℕ → Slots → Type 0 where
-  kept : Becomes notYet s x x.printer.pending x.printer.writes x.slots
+pub data Becomes (not_yet : ℕ) (s : List ℕ) (x : Station) : Pending → ℕ → Slots → Type 0 where
+  kept : Becomes not_yet s x x.printer.pending x.printer.writes x.slots
   -- by an opening call: none, and 0
-  opened : {h : Header} → Calls x s class.Opening h → Becomes notYet s x pending.Nothing 0 x.slots
+  opened : {h : Header} → Calls x s class.Opening h → Becomes not_yet s x pending.Nothing 0 x.slots
   -- by a new write with none pending: its result, and one more, staying at 255
   wrote : {h : Header} {slot index : ℕ} {body : List ℕ} {o : Outcome} {z : Slots}
       → New x s h → Asks s h (content.Dpv1Call (call.Write slot index)) body → x.printer.pending ≡ pending.Nothing
-      → Judged x.printer.boarding slot index body x.slots o z → Becomes notYet s x (pending.Result o notYet) (min 255 (suc x.printer.writes)) z
+      → Judged x.printer.boarding slot index body x.slots o z → Becomes not_yet s x (pending.Result o not_yet) (min 255 (suc x.printer.writes)) z
   -- by a new poll of a pending result: one "not yet" less, or none pending
   waited : {h : Header} {part : List ℕ} {o : Outcome} {wait : ℕ}
       → New x s h → Asks s h (content.Dpv1Call call.Poll) part → x.printer.pending ≡ pending.Result o (suc wait)
-      → Becomes notYet s x (pending.Result o wait) x.printer.writes x.slots
+      → Becomes not_yet s x (pending.Result o wait) x.printer.writes x.slots
   fetched : {h : Header} {part : List ℕ} {o : Outcome}
       → New x s h → Asks s h (content.Dpv1Call call.Poll) part → x.printer.pending ≡ pending.Result o zero
-      → Becomes notYet s x pending.Nothing x.printer.writes x.slots
+      → Becomes not_yet s x pending.Nothing x.printer.writes x.slots

@@ -3,16 +3,16 @@ use Rattle.std.specs.Prelude.{ℕ, zero, suc, ◌%◌, ◌≤◌, ◌≡◌, Boo
 use Rattle.std.proofs.Math.Path.{refl}
 use Rattle.std.proofs.Common.{sym, subst, arith, le-leb, le-ltb, ltb-false}
 use mathlib.Core.List.{List, []}
-use Rattle.octets.specs.Choice.{by-pick}
+use Rattle.octets.specs.Choice.{by_pick}
 use Rattle.octets.specs.Front.{fine, over}
 use Rattle.octets.specs.declared.Mode.TheVariants as mode
-use Rattle.function_code.specs.Code.{classOf}
+use Rattle.function_code.specs.Code.{class_of}
 use Rattle.fdl.specs.Laws as telegram-laws
 use Rattle.fdl.specs.Lemmas.Reads as case
-use Rattle.fdl.specs.Lemmas.Reads.{Reads, reads, headerIn}
+use Rattle.fdl.specs.Lemmas.Reads.{Reads, reads, header_in}
 use Rattle.fdl.specs.Reading as telegram
 use Rattle.fdl.specs.Reading.{read_by}
-use Rattle.fdl.specs.Writing.{goodHeader, verdictBy}
+use Rattle.fdl.specs.Writing.{good_header, verdict_by}
 use Rattle.fdl.specs.Writing as telegram-writing
 use Rattle.function_code.specs.declared.code.Class.{Class}
 use Rattle.function_code.specs.declared.code.Class.TheVariants as class
@@ -22,24 +22,24 @@ use Rattle.fdl.specs.declared.telegram.Format.{Format}
 use Rattle.fdl.specs.declared.telegram.Format.TheVariants.{Sd1, Sd2}
 use Rattle.fdl.specs.declared.telegram.Header.{Header}
 use Rattle.fdl.specs.declared.telegram.Sap.TheVariants.{Absent}
-use Rattle.access.specs.Route.{headerWith}
+use Rattle.access.specs.Route.{header_with}
 use Rattle.acyclic.specs.Answers as answers
-use Rattle.acyclic.specs.Errors.{named_in, goodCode1}
-use Rattle.acyclic.specs.Forms.{rangedOf, negativeOf}
+use Rattle.acyclic.specs.Errors.{named_in, good_code1}
+use Rattle.acyclic.specs.Forms.{ranged_of, negative_of}
 use Rattle.content.specs.declared.fields.Content.{Content}
 use Rattle.content.specs.declared.fields.Content.TheVariants as content
-use Rattle.service.specs.Laws.{reads-back}
+use Rattle.service.specs.Laws.{reads_back}
 use Rattle.service.specs.Reading as service
 use Rattle.service.specs.declared.reading.Reading.TheVariants as service-reading
 use Rattle.service.specs.declared.reading.Way.TheVariants as way
 use Rattle.protocol.specs.Slots.{Slots}
-use Rattle.protocol.specs.Lemmas.Read.{outcome-fine, result-header, result-route}
+use Rattle.protocol.specs.Lemmas.Read.{outcome_fine, result_header, result_route}
 use Rattle.protocol.specs.Verdicts.{Valid}
-use Rattle.protocol.specs.Lemmas.Replies.{diagnosis-read}
-use Rattle.protocol.specs.Lemmas.Hearing.{stored-sent}
-use Rattle.protocol.specs.Telegrams.{answer_of, replyCode}
+use Rattle.protocol.specs.Lemmas.Replies.{diagnosis_read}
+use Rattle.protocol.specs.Lemmas.Hearing.{stored_sent}
+use Rattle.protocol.specs.Telegrams.{answer_of, reply_code}
 use Rattle.protocol.specs.Printer as printer
-use Rattle.protocol.specs.Printer.{Ask, slaveDiag, write, poll, unknown, undecodable, Received, nothing, elsewhere, status, uncounted, opening, counted, isCall, calledBy, receivedBy, receivedOf, Reply, confirmation, diagnosis, result, guarded, judge, Deed, perform, openingReply, Station, Heard, isRepeat, replyBytes, heardBy, hear}
+use Rattle.protocol.specs.Printer.{Ask, slave_diag, write, poll, unknown, undecodable, Received, nothing, elsewhere, status, uncounted, opening, counted, is_call, called_by, received_by, received_of, Reply, confirmation, diagnosis, result, guarded, judge, Deed, perform, opening_reply, Station, Heard, is_repeat, reply_bytes, heard_by, hear}
 use Rattle.protocol.specs.declared.printer.Outcome.{Outcome}
 use Rattle.protocol.specs.declared.printer.Pending.{Pending}
 use Rattle.protocol.specs.declared.printer.Pending.TheVariants as pending
@@ -54,13 +54,13 @@ LeftIn pending.Nothing = Unit {0}
 LeftIn (pending.Result o wait) = Left o
 
 -- DPV1 has an answer for each
-left-fine : {o : Outcome} → Left o → answers.verdictOf (answer_of o) 0 ≡ fine
-unfolding judge negativeOf goodCode1 named_in rangedOf
-left-fine (left boarding slot index len) =
-    by-pick (λ o. answers.verdictOf (answer_of o) 0 ≡ fine) (not (eqb slot 1)) (λ _. refl) (λ _.
-    by-pick (λ o. answers.verdictOf (answer_of o) 0 ≡ fine) (ltb 15 index) (λ _. refl) (λ _.
-    by-pick (λ o. answers.verdictOf (answer_of o) 0 ≡ fine) (ltb 200 len) (λ _. refl) (λ l.
-    by-pick (λ o. answers.verdictOf (answer_of o) 0 ≡ fine) (guarded boarding index) (λ _. refl) (λ _.
+left_fine : {o : Outcome} → Left o → answers.verdict_of (answer_of o) 0 ≡ fine
+unfolding judge negative_of good_code1 named_in ranged_of
+left_fine (left boarding slot index len) =
+    by_pick (λ o. answers.verdict_of (answer_of o) 0 ≡ fine) (not (eqb slot 1)) (λ _. refl) (λ _.
+    by_pick (λ o. answers.verdict_of (answer_of o) 0 ≡ fine) (ltb 15 index) (λ _. refl) (λ _.
+    by_pick (λ o. answers.verdict_of (answer_of o) 0 ≡ fine) (ltb 200 len) (λ _. refl) (λ l.
+    by_pick (λ o. answers.verdict_of (answer_of o) 0 ≡ fine) (guarded boarding index) (λ _. refl) (λ _.
     let most : len ≤ 240 = omega (arith, ltb-false 200 len l) in simp (le-ltb 240 len most)))))
 
 -- ---- what may be sent
@@ -68,32 +68,32 @@ left-fine (left boarding slot index len) =
 pub data Proper (s : List ℕ) : Type 0 where
   silent : s ≡ [] → Proper s
   confirms : telegram.read_of s ≡ telegram-reading.Confirmation → Proper s
-  bare : {h : Header} {start : ℕ} → telegram.read_of s ≡ telegram-reading.Telegram Sd1 h start 0 → classOf h.fc ≡ class.Bare → Proper s
+  bare : {h : Header} {start : ℕ} → telegram.read_of s ≡ telegram-reading.Telegram Sd1 h start 0 → class_of h.fc ≡ class.Bare → Proper s
   carries : {f : Format} {h : Header} {c : Content} {start len : ℕ} → service.read_of s mode.Dpv1 ≡ service-reading.Service f h way.Answer c start len → Proper s
 
 -- a bare reply has a bare code, and a result was left by a write
 abbrev Fits : Reply → Type 0
 Fits confirmation = Unit {0}
-Fits (printer.bare function) = classOf function ≡ class.Bare
+Fits (printer.bare function) = class_of function ≡ class.Bare
 Fits diagnosis = Unit {0}
 Fits (result o) = Left o
 
-pub bare-fine : (to from : ℕ) → to ≤ 126 → from ≤ 126 → (function : ℕ) → classOf function ≡ class.Bare → telegram-writing.verdictOf Sd1 (headerWith to from function Absent Absent) [] ≡ fine
-unfolding goodHeader verdictBy
-bare-fine to from t f function e =
+pub bare_fine : (to from : ℕ) → to ≤ 126 → from ≤ 126 → (function : ℕ) → class_of function ≡ class.Bare → telegram-writing.verdict_of Sd1 (header_with to from function Absent Absent) [] ≡ fine
+unfolding good_header verdict_by
+bare_fine to from t f function e =
     let da : leb to 127 ≡ true = le-leb to 127 (omega arith) in
     simp (da, le-leb from 126 f, e)
 
 module _ (diag : List ℕ) (to from : ℕ) (t : to ≤ 126) (f : from ≤ 126) (v : Valid diag) where
-  proper-reply : (r : Reply) → Fits r → Proper (replyBytes diag from to r)
+  proper_reply : (r : Reply) → Fits r → Proper (reply_bytes diag from to r)
   unfolding read_by
-  proper-reply confirmation e = confirms refl
-  proper-reply (printer.bare function) e =
-      bare (telegram-laws.telegram-reads-back classOf Sd1 (headerWith to from function Absent Absent) [] (bare-fine to from t f function e)) e
-  proper-reply diagnosis e = carries (diagnosis-read to from t f diag v)
-  proper-reply (result o) e =
+  proper_reply confirmation e = confirms refl
+  proper_reply (printer.bare function) e =
+      bare (telegram-laws.telegram_reads_back class_of Sd1 (header_with to from function Absent Absent) [] (bare_fine to from t f function e)) e
+  proper_reply diagnosis e = carries (diagnosis_read to from t f diag v)
+  proper_reply (result o) e =
       let c : Content = content.Dpv1Answer (answer_of o) in
-      carries (rw (result-header to from, result-route to from) at (reads-back Sd2 to from replyCode c [] mode.Dpv1 tt tt (outcome-fine to from t f o (left-fine e))).0)
+      carries (rw (result_header to from, result_route to from) at (reads_back Sd2 to from reply_code c [] mode.Dpv1 tt tt (outcome_fine to from t f o (left_fine e))).0)
 
 -- ---- what is received comes from a station 0..126
 
@@ -106,26 +106,26 @@ Comes (opening sa ask) = sa ≤ 126
 Comes (counted fcb sa ask) = sa ≤ 126
 
 module _ (address : ℕ) (s : List ℕ) where
-  by-class : (k : Class) (h : Header) → h.sa ≤ 126 → Comes (calledBy k s h)
-  by-class class.Opening h e = e
-  by-class class.Counted h e = e
-  by-class class.Uncounted h e = by-pick Comes (eqb (h.fc % 16) 9) (λ _. e) (λ _. tt)
-  by-class class.Bare h e = tt
-  by-class class.Data h e = tt
-  by-class class.Reserved h e = tt
+  by_class : (k : Class) (h : Header) → h.sa ≤ 126 → Comes (called_by k s h)
+  by_class class.Opening h e = e
+  by_class class.Counted h e = e
+  by_class class.Uncounted h e = by_pick Comes (eqb (h.fc % 16) 9) (λ _. e) (λ _. tt)
+  by_class class.Bare h e = tt
+  by_class class.Data h e = tt
+  by_class class.Reserved h e = tt
 
-  by-reading : {r : telegram-type.Reading} → Reads classOf s r → Comes (receivedBy address s r)
-  by-reading (case.confirmation e) = tt
-  by-reading (case.token e x y) = tt
-  by-reading (case.telegram {f} {at} {pdu} {dsap} {ssap} starts frames) =
-      let h : Header = headerIn s at dsap ssap in
-      by-pick Comes (isCall (classOf h.fc)) (λ _.
-      by-pick Comes (eqb h.da address) (λ _. by-class (classOf h.fc) h (omega (arith, frames.source))) (λ _. tt)) (λ _. tt)
-  by-reading case.refusal = tt
+  by_reading : {r : telegram-type.Reading} → Reads class_of s r → Comes (received_by address s r)
+  by_reading (case.confirmation e) = tt
+  by_reading (case.token e x y) = tt
+  by_reading (case.telegram {f} {at} {pdu} {dsap} {ssap} starts frames) =
+      let h : Header = header_in s at dsap ssap in
+      by_pick Comes (is_call (class_of h.fc)) (λ _.
+      by_pick Comes (eqb h.da address) (λ _. by_class (class_of h.fc) h (omega (arith, frames.source))) (λ _. tt)) (λ _. tt)
+  by_reading case.refusal = tt
 
-  pub comes : Comes (receivedOf address s)
-  unfolding receivedOf
-  comes = by-reading (reads classOf s)
+  pub comes : Comes (received_of address s)
+  unfolding received_of
+  comes = by_reading (reads class_of s)
 
 -- ---- the step
 
@@ -138,55 +138,55 @@ pub record Sound (x : Station) : Type 0 where
 abbrev Fair : Deed → Type 0
 Fair d = LeftIn d.pending × Fits d.reply
 
-by-ask : (boarding : Bool) (n : ℕ) (p : Pending) (s : Slots) (w : ℕ) (ask : Ask) → LeftIn p → Fair (perform boarding n p s w ask)
-unfolding classOf
-by-ask boarding n p s w slaveDiag l = (l, tt)
-by-ask boarding n pending.Nothing s w (write slot index body) l = (left boarding slot index (length body), tt)
-by-ask boarding n (pending.Result o wait) s w (write slot index body) l = (l, refl)
-by-ask boarding n pending.Nothing s w poll l = (tt, tt)
-by-ask boarding n (pending.Result o zero) s w poll l = (tt, l)
-by-ask boarding n (pending.Result o (suc wait)) s w poll l = (l, tt)
-by-ask boarding n p s w unknown l = (l, refl)
-by-ask boarding n p s w undecodable l = (l, refl)
+by_ask : (boarding : Bool) (n : ℕ) (p : Pending) (s : Slots) (w : ℕ) (ask : Ask) → LeftIn p → Fair (perform boarding n p s w ask)
+unfolding class_of
+by_ask boarding n p s w slave_diag l = (l, tt)
+by_ask boarding n pending.Nothing s w (write slot index body) l = (left boarding slot index (length body), tt)
+by_ask boarding n (pending.Result o wait) s w (write slot index body) l = (l, refl)
+by_ask boarding n pending.Nothing s w poll l = (tt, tt)
+by_ask boarding n (pending.Result o zero) s w poll l = (tt, l)
+by_ask boarding n (pending.Result o (suc wait)) s w poll l = (l, tt)
+by_ask boarding n p s w unknown l = (l, refl)
+by_ask boarding n p s w undecodable l = (l, refl)
 
-opening-fits : (ask : Ask) → Fits (openingReply ask)
-unfolding classOf
-opening-fits slaveDiag = tt
-opening-fits (write slot index body) = refl
-opening-fits poll = refl
-opening-fits unknown = refl
-opening-fits undecodable = refl
+opening_fits : (ask : Ask) → Fits (opening_reply ask)
+unfolding class_of
+opening_fits slave_diag = tt
+opening_fits (write slot index body) = refl
+opening_fits poll = refl
+opening_fits unknown = refl
+opening_fits undecodable = refl
 
-status-fits : Fits (printer.bare 0)
-unfolding classOf
-status-fits = refl
+status_fits : Fits (printer.bare 0)
+unfolding class_of
+status_fits = refl
 
 module _ (diag : List ℕ) (n : ℕ) (x : Station) (a : x.printer.address ≤ 126) (v : Valid diag) (z : Sound x) where
   abbrev Keeps : Heard → Type 0
   Keeps h = Sound h.station × Proper (take h.reply h.station.buffer)
 
-  abbrev bytesTo : (sa : ℕ) → Reply → List ℕ
-  bytesTo sa r = replyBytes diag x.printer.address sa r
+  abbrev bytes_to : (sa : ℕ) → Reply → List ℕ
+  bytes_to sa r = reply_bytes diag x.printer.address sa r
 
   -- what is stored in front is what is sent
-  sent : (sa : ℕ) → sa ≤ 126 → (r : Reply) → Fits r → Proper (take (length (bytesTo sa r)) (over (bytesTo sa r) x.buffer))
-  sent sa f r e = subst Proper (sym (stored-sent (bytesTo sa r) x.buffer)) (proper-reply diag sa x.printer.address f a v r e)
+  sent : (sa : ℕ) → sa ≤ 126 → (r : Reply) → Fits r → Proper (take (length (bytes_to sa r)) (over (bytes_to sa r) x.buffer))
+  sent sa f r e = subst Proper (sym (stored_sent (bytes_to sa r) x.buffer)) (proper_reply diag sa x.printer.address f a v r e)
 
-  by-received : (r : Received) → Comes r → Keeps (heardBy diag n r x)
-  by-received nothing f = (z, silent refl)
-  by-received elsewhere f = (record { pending = z.pending; held = silent refl }, silent refl)
-  by-received uncounted f = (record { pending = z.pending; held = silent refl }, silent refl)
-  by-received (status sa) f = (record { pending = z.pending; held = silent refl }, sent sa f (printer.bare 0) status-fits)
-  by-received (opening sa ask) f = (record { pending = tt; held = silent refl }, sent sa f (openingReply ask) (opening-fits ask))
-  by-received (counted fcb sa ask) f =
-      by-pick Keeps (isRepeat x.printer fcb sa) (λ _. (z, z.held)) (λ _.
+  by_received : (r : Received) → Comes r → Keeps (heard_by diag n r x)
+  by_received nothing f = (z, silent refl)
+  by_received elsewhere f = (record { pending = z.pending; held = silent refl }, silent refl)
+  by_received uncounted f = (record { pending = z.pending; held = silent refl }, silent refl)
+  by_received (status sa) f = (record { pending = z.pending; held = silent refl }, sent sa f (printer.bare 0) status_fits)
+  by_received (opening sa ask) f = (record { pending = tt; held = silent refl }, sent sa f (opening_reply ask) (opening_fits ask))
+  by_received (counted fcb sa ask) f =
+      by_pick Keeps (is_repeat x.printer fcb sa) (λ _. (z, z.held)) (λ _.
       let d : Deed = perform x.printer.boarding n x.printer.pending x.slots x.printer.writes ask in
-      let e : Fair d = by-ask x.printer.boarding n x.printer.pending x.slots x.printer.writes ask z.pending in
+      let e : Fair d = by_ask x.printer.boarding n x.printer.pending x.slots x.printer.writes ask z.pending in
       (record { pending = e.0; held = sent sa f d.reply e.1 }, sent sa f d.reply e.1))
 
 -- From a state whose pending result a write could have left, which every step keeps, every data reply is a telegram that
 -- `service` reads as an answer, and every other a bare SD1 or SC.
-pub replies-proper : (diag : List ℕ) (notYet : ℕ) (s : List ℕ) (x : Station) → x.printer.address ≤ 126 → Valid diag → Sound x
-    → Sound (hear diag notYet s x).station × Proper (take (hear diag notYet s x).reply (hear diag notYet s x).station.buffer)
+pub replies_proper : (diag : List ℕ) (not_yet : ℕ) (s : List ℕ) (x : Station) → x.printer.address ≤ 126 → Valid diag → Sound x
+    → Sound (hear diag not_yet s x).station × Proper (take (hear diag not_yet s x).reply (hear diag not_yet s x).station.buffer)
 unfolding hear
-replies-proper diag notYet s x a v z = by-received diag notYet x a v z (receivedOf x.printer.address s) (comes x.printer.address s)
+replies_proper diag not_yet s x a v z = by_received diag not_yet x a v z (received_of x.printer.address s) (comes x.printer.address s)

@@ -1,12 +1,12 @@
 -- `routing::route_by` meets its contract: what its parts ensure, put together.
 use mathlib.Core.Path.{◌≡◌, sym, ◌∙◌}
-use Rattle.access.specs.Route.{kindBy}
+use Rattle.access.specs.Route.{kind_by}
 use borrow.Author.Rules.{rules}
 use Rattle.routing.proofs.route_by.Statement.{statement}
 use Rattle.routing.proofs.route_by.Tie as tie
 
 -- the kind is the definition's
-told : (c : tie.After-kind-by) → let a = c.before.args in kindBy a.class a.header.fc ≡ c.kind-by.result
+told : (c : tie.After-kind-by) → let a = c.before.args in kind_by a.class a.header.fc ≡ c.kind-by.result
 told c = sym c.kind-by.ensures
 
 kind-by-requires : tie.Need-kind-by-requires

@@ -1,6 +1,6 @@
 -- `service_fields::content_in` meets its contract. The definition goes by the same numbers.
 use borrow.Author.Tests.{ne_eqb}
-use Rattle.service_fields.specs.Service.{contentBy}
+use Rattle.service_fields.specs.Service.{content_by}
 use borrow.Author.Rules.{rules}
 use Rattle.service_fields.proofs.content_in.Statement.{statement}
 use Rattle.service_fields.proofs.content_in.Tie as tie
@@ -42,53 +42,53 @@ unlisted-by-requires : tie.Need-unlisted-by-requires
 unlisted-by-requires c κs = search rules
 
 returns : tie.Need-returns
-unfolding contentBy
+unfolding content_by
 returns c = simp c.match.keys1
 
 returns-2 : tie.Need-returns-2
-unfolding contentBy
+unfolding content_by
 returns-2 c = simp c.before.match.keys2 c.dpv1-in.ensures
 
 returns-3 : tie.Need-returns-3
-unfolding contentBy
+unfolding content_by
 returns-3 c = simp c.match.keys3
 
 returns-4 : tie.Need-returns-4
-unfolding contentBy
+unfolding content_by
 returns-4 c =
     let j = c.before in
     simp (j.before.before.before.before.match.keys4, j.join16.ensures)
 
 returns-5 : tie.Need-returns-5
-unfolding contentBy
+unfolding content_by
 returns-5 c = simp c.match.keys5
 
 returns-6 : tie.Need-returns-6
-unfolding contentBy
+unfolding content_by
 returns-6 c = simp c.match.keys6
 
 returns-7 : tie.Need-returns-7
-unfolding contentBy
+unfolding content_by
 returns-7 c = simp c.before.before.match.keys7
 
 returns-8 : tie.Need-returns-8
-unfolding contentBy
+unfolding content_by
 returns-8 c = simp c.match.keys8
 
 returns-9 : tie.Need-returns-9
-unfolding contentBy
-returns-9 c = simp (c.before.match.keys9, c.diagnosis-in.ensures)
+unfolding content_by
+returns-9 c = simp (c.before.match.keys9, c.diagnosis_in_lem.ensures)
 
 returns-10 : tie.Need-returns-10
-unfolding contentBy
-returns-10 c = simp (c.before.match.keys10, c.parameters-in.ensures)
+unfolding content_by
+returns-10 c = simp (c.before.match.keys10, c.parameters_in_lem.ensures)
 
 returns-11 : tie.Need-returns-11
-unfolding contentBy
+unfolding content_by
 returns-11 c = simp c.match.keys11
 
 returns-12 : tie.Need-returns-12
-unfolding contentBy
+unfolding content_by
 returns-12 c =
     let r = c.before.match.rest in
     simp (ne_eqb _ _ r.1, ne_eqb _ _ r.0.1, ne_eqb _ _ r.0.0.1, ne_eqb _ _ r.0.0.0.1, ne_eqb _ _ r.0.0.0.0.1, ne_eqb _ _ r.0.0.0.0.0.1, ne_eqb _ _ r.0.0.0.0.0.0.1, ne_eqb _ _ r.0.0.0.0.0.0.0.1, ne_eqb _ _ r.0.0.0.0.0.0.0.0.1, ne_eqb _ _ r.0.0.0.0.0.0.0.0.0.1, ne_eqb _ _ r.0.0.0.0.0.0.0.0.0.0.1) c.unlisted-by.ensures

@@ -1,7 +1,7 @@
 -- `service_fields::diagnosis_in` meets its contract, by the way.
 use mathlib.Core.Path.{sym, ◌∙◌}
 use borrow.Author.Tests.{not-true, not-false}
-use Rattle.service_fields.specs.Service.{diagnosisIn}
+use Rattle.service_fields.specs.Service.{diagnosis_in}
 use borrow.Author.Rules.{rules}
 use Rattle.service_fields.proofs.diagnosis_in.Statement.{statement}
 use Rattle.service_fields.proofs.diagnosis_in.Tie as tie
@@ -13,7 +13,7 @@ is-answer-requires : tie.Need-is-answer-requires
 is-answer-requires c κs = search rules
 
 returns : tie.Need-returns
-unfolding diagnosisIn
+unfolding diagnosis_in
 returns c =
     simp (sym c.before.is-answer.ensures ∙ not-true _ c.if1.true)
 
@@ -39,7 +39,7 @@ join16-requires : tie.Need-join16-requires
 join16-requires c κs = search rules
 
 returns-2 : tie.Need-returns-2
-unfolding diagnosisIn
+unfolding diagnosis_in
 returns-2 c =
     let t = c.before.before.before.before.before.before.before in
     simp (sym t.before.is-answer.ensures ∙ not-false _ t.if1.false, c.join16.ensures)

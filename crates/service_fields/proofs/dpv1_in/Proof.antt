@@ -1,6 +1,6 @@
 -- `service_fields::dpv1_in` meets its contract, by the way and its numbers.
 use mathlib.Core.Path.{sym, ap, ◌∙◌}
-use Rattle.service_fields.specs.Service.{named_by, dpv1In}
+use Rattle.service_fields.specs.Service.{named_by, dpv1_in}
 use borrow.Author.Rules.{rules}
 use Rattle.service_fields.proofs.dpv1_in.Statement.{statement}
 use Rattle.service_fields.proofs.dpv1_in.Tie as tie
@@ -30,7 +30,7 @@ named-by-requires : tie.Need-named-by-requires
 named-by-requires c κs = search rules
 
 returns : tie.Need-returns
-unfolding dpv1In
+unfolding dpv1_in
 returns c =
     let n = c.before in
     let t = n.before.before.before.before.before in
@@ -55,7 +55,7 @@ named-by-requires-2 : tie.Need-named-by-requires-2
 named-by-requires-2 c κs = search rules
 
 returns-2 : tie.Need-returns-2
-unfolding dpv1In
+unfolding dpv1_in
 returns-2 c =
     let n = c.before in
     let t = n.before.before.before.before.before in

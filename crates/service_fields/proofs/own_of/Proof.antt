@@ -3,7 +3,7 @@ use mathlib.Core.Path.{◌≡◌, sym, ap, ◌∙◌}
 use mathlib.Core.List.{List, ◌∷◌}
 use Prim.Native.Nat.{ℕ}
 use Rattle.octets.specs.Places.{places_of}
-use Rattle.service_fields.specs.Service.{ownFields}
+use Rattle.service_fields.specs.Service.{own_fields}
 use borrow.Author.Rules.{rules}
 use Rattle.service_fields.proofs.own_of.Statement.{statement}
 use Rattle.service_fields.proofs.own_of.Tie as tie
@@ -103,43 +103,43 @@ led-requires-11 : tie.Need-led-requires-11
 led-requires-11 c κs = search rules
 
 returns : tie.Need-returns
-returns c = c.led.ensures ∙ sym (ap ownFields c.before.enum_told.given.1)
+returns c = c.led.ensures ∙ sym (ap own_fields c.before.enum_told.given.1)
 
 returns-2 : tie.Need-returns-2
-returns-2 c = dpv1 c.led2.ensures c.before.call-four.ensures ∙ sym (ap ownFields c.before.before.before.content.given.1)
+returns-2 c = dpv1 c.led2.ensures c.before.call-four.ensures ∙ sym (ap own_fields c.before.before.before.content.given.1)
 
 returns-3 : tie.Need-returns-3
-returns-3 c = dpv1 c.led3.ensures c.before.answer-four.ensures ∙ sym (ap ownFields c.before.before.before.content2.given.1)
+returns-3 c = dpv1 c.led3.ensures c.before.answer-four.ensures ∙ sym (ap own_fields c.before.before.before.content2.given.1)
 
 returns-4 : tie.Need-returns-4
-returns-4 c = c.led4.ensures ∙ sym (ap ownFields c.before.enum-told2.given.1)
+returns-4 c = c.led4.ensures ∙ sym (ap own_fields c.before.enum-told2.given.1)
 
 returns-5 : tie.Need-returns-5
-returns-5 c = c.led5.ensures ∙ sym (ap ownFields c.before.before.content3.given.1)
+returns-5 c = c.led5.ensures ∙ sym (ap own_fields c.before.before.content3.given.1)
 
 returns-6 : tie.Need-returns-6
-returns-6 c = c.led6.ensures ∙ sym (ap ownFields c.before.enum-told3.given.1)
+returns-6 c = c.led6.ensures ∙ sym (ap own_fields c.before.enum-told3.given.1)
 
 returns-7 : tie.Need-returns-7
-returns-7 c = c.led7.ensures ∙ sym (ap ownFields c.before.enum-told4.given.1)
+returns-7 c = c.led7.ensures ∙ sym (ap own_fields c.before.enum-told4.given.1)
 
 returns-8 : tie.Need-returns-8
-returns-8 c = c.led8.ensures ∙ sym (ap ownFields c.before.before.content4.given.1)
+returns-8 c = c.led8.ensures ∙ sym (ap own_fields c.before.before.content4.given.1)
 
 returns-9 : tie.Need-returns-9
-returns-9 c = c.led9.ensures ∙ sym (ap ownFields c.before.enum-told5.given.1)
+returns-9 c = c.led9.ensures ∙ sym (ap own_fields c.before.enum-told5.given.1)
 
 returns-10 : tie.Need-returns-10
-returns-10 c = c.led10.ensures ∙ sym (ap ownFields c.before.enum-told6.given.1)
+returns-10 c = c.led10.ensures ∙ sym (ap own_fields c.before.enum-told6.given.1)
 
 returns-11 : tie.Need-returns-11
-returns-11 c = c.diagnosis-own.ensures ∙ sym (ap ownFields c.before.before.content5.given.1)
+returns-11 c = c.diagnosis-own.ensures ∙ sym (ap own_fields c.before.before.content5.given.1)
 
 returns-12 : tie.Need-returns-12
-returns-12 c = c.parameters-own.ensures ∙ sym (ap ownFields c.before.before.content6.given.1)
+returns-12 c = c.parameters-own.ensures ∙ sym (ap own_fields c.before.before.content6.given.1)
 
 returns-13 : tie.Need-returns-13
-returns-13 c = c.led11.ensures ∙ sym (ap ownFields c.before.enum-told7.given.1)
+returns-13 c = c.led11.ensures ∙ sym (ap own_fields c.before.enum-told7.given.1)
 
 pub own-of-spec : {M : Type 1} → statement M
 own-of-spec =

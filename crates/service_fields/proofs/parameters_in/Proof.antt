@@ -1,5 +1,5 @@
 -- `service_fields::parameters_in` meets its contract, by what the ident number and the version ensure.
-use Rattle.service_fields.specs.Service.{parametersIn}
+use Rattle.service_fields.specs.Service.{parameters_in}
 use borrow.Author.Rules.{rules}
 use Rattle.service_fields.proofs.parameters_in.Statement.{statement}
 use Rattle.service_fields.proofs.parameters_in.Tie as tie
@@ -41,7 +41,7 @@ element-copy-out-t31 : tie.Need-element-copy-out-t31
 element-copy-out-t31 c = search rules
 
 returns : tie.Need-returns
-unfolding parametersIn
+unfolding parameters_in
 returns c =
     let j = c.before in
     let e = j.before.before.before.before.before.before in

@@ -3,7 +3,7 @@ use mathlib.Core.Path.{◌≡◌, refl, ap, ◌∙◌}
 use mathlib.Core.List.{List, ◌∷◌, ◌++◌}
 use Prim.Native.Nat.{ℕ}
 use lib.ListN.{take, replicate}
-use Rattle.parameters.specs.Writing.{statusBytes, fixedBytes}
+use Rattle.parameters.specs.Writing.{status_bytes, fixed_bytes}
 use Rattle.parameters.specs.declared.fields.Extension.{Extension}
 use Rattle.parameters.specs.declared.fields.Extension.TheVariants.{Dpv0, Dpv1}
 use Rattle.octets.specs.Places.{places_of}
@@ -12,7 +12,7 @@ use Rattle.service_fields.proofs.parameters_own.Statement.{statement}
 use Rattle.service_fields.proofs.parameters_own.Tie as tie
 
 -- three places of four, and of ten
-three : (x : Extension) → take 3 (places_of 4 (statusBytes x)) ≡ take 3 (statusBytes x ++ replicate 10 0)
+three : (x : Extension) → take 3 (places_of 4 (status_bytes x)) ≡ take 3 (status_bytes x ++ replicate 10 0)
 three Dpv0 = refl
 three (Dpv1 a b c) = refl
 
@@ -28,8 +28,8 @@ cast-t10 c = search rules
 returns : tie.Need-returns
 returns c =
     let a = c.before.before.args in
-    ap (λ (l : List ℕ). 61 ∷ (fixedBytes a.fields ++ take 3 l)) c.status-four.ensures
-    ∙ ap (λ (l : List ℕ). 61 ∷ (fixedBytes a.fields ++ l)) (three a.fields.extension)
+    ap (λ (l : List ℕ). 61 ∷ (fixed_bytes a.fields ++ take 3 l)) c.status-four.ensures
+    ∙ ap (λ (l : List ℕ). 61 ∷ (fixed_bytes a.fields ++ l)) (three a.fields.extension)
 
 pub parameters-own-spec : {M : Type 1} → statement M
 parameters-own-spec = tie.close (tie.spec status-four-requires cast-t8 cast-t10 returns)

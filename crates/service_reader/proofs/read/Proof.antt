@@ -6,13 +6,13 @@ use native.Mathlib.Omega.{arith}
 use lib.Dec.{leb}
 use lib.ListN.{length}
 use borrow.Author.Tests.{leb-true}
-use Rattle.octets.specs.Choice.{by-pick}
-use Rattle.octets.specs.Part.{part_of, part-short}
+use Rattle.octets.specs.Choice.{by_pick}
+use Rattle.octets.specs.Part.{part_of, part_short}
 use Rattle.fdl.specs.Reading as telegram
 use Rattle.fdl.specs.Lemmas.Classed.{Says, said}
 use Rattle.fdl.specs.declared.reading.Classed.{Classed}
-use Rattle.access.specs.Route.{routeOf}
-use Rattle.service.specs.Reading.{routedBy, serviceIn, read_of}
+use Rattle.access.specs.Route.{route_of}
+use Rattle.service.specs.Reading.{routed_by, service_in, read_of}
 use borrow.Author.Rules.{rules}
 use Rattle.service_reader.proofs.read.Statement.{statement}
 use Rattle.service_reader.proofs.read.Tie as tie
@@ -21,8 +21,8 @@ use Rattle.service_reader.proofs.read.Tie as tie
 ends : (s : List ℕ) (start len most : ℕ) → start ≤ most → length s ≤ most → start + length (part_of s start len) ≤ most
 unfolding part_of
 ends s start len most a b =
-    by-pick (λ (l : List ℕ). length l ≤ len → start + length l ≤ most) (leb (start + len) (length s)) (λ t i. omega (arith, leb-true (start + len) (length s) t))
-    (λ _ _. omega arith) (part-short s start len)
+    by_pick (λ (l : List ℕ). length l ≤ len → start + length l ≤ most) (leb (start + len) (length s)) (λ t i. omega (arith, leb-true (start + len) (length s) t))
+    (λ _ _. omega arith) (part_short s start len)
 
 abbrev entry : tie.After-read-classed → tie.Start
 entry c = c.before.before
@@ -74,8 +74,8 @@ returns-3 c =
     let a = (entry r).args in
     let g = t.telegram.given in
     let h = g.0.1.0 in
-    c.routed.ensures ∙ ap (λ (u : List ℕ). routedBy (routeOf h) g.0.0 h g.0.1.1.0 u a.mode) c.before.part.ensures
-    ∙ sym (ap (serviceIn a.bytes.now a.mode) (found r g.1).0)
+    c.routed.ensures ∙ ap (λ (u : List ℕ). routed_by (route_of h) g.0.0 h g.0.1.1.0 u a.mode) c.before.part.ensures
+    ∙ sym (ap (service_in a.bytes.now a.mode) (found r g.1).0)
 
 returns-4 : tie.Need-returns-4
 unfolding read_of

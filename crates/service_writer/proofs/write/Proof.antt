@@ -8,23 +8,23 @@ use lib.ListN.{length}
 use types.Run.{OneOf, miss}
 use denote.Enum.Declared as Declared
 use Rattle.octets.specs.Front.{Verdict, refused}
-use Rattle.fdl.specs.Around.{goodFields}
+use Rattle.fdl.specs.Around.{good_fields}
 use Rattle.fdl.specs.Lemmas.Around.{fit}
-use Rattle.fdl.specs.Writing.{telegramOf}
+use Rattle.fdl.specs.Writing.{telegram_of}
 use Rattle.fdl.specs.declared.telegram.Header.{Header}
 use Rattle.access.specs.contracts.route.Route as route-type
-use Rattle.access.specs.Laws.{header-route}
-use Rattle.access.specs.Route.{routeOf, headerOf}
+use Rattle.access.specs.Laws.{header_route}
+use Rattle.access.specs.Route.{route_of, header_of}
 use Rattle.access.specs.declared.route.Route.{Route}
 use Rattle.access.specs.declared.route.Route.TheVariants as route
 use Rattle.access.specs.declared.table.Service.{Service}
-use Rattle.content.specs.Fields.{fixedLength}
-use Rattle.content.specs.Laws.{bytes-long}
-use Rattle.content.specs.Writing.{bytesFor}
+use Rattle.content.specs.Fields.{fixed_length}
+use Rattle.content.specs.Laws.{bytes_long}
+use Rattle.content.specs.Writing.{bytes_for}
 use Rattle.content.specs.declared.fields.Content.{Content}
-use Rattle.service.specs.Writing.{wayBy, headerFor, wayVerdict, routeVerdict, verdictOf, telegramFor}
+use Rattle.service.specs.Writing.{way_by, header_for, way_verdict, route_verdict, verdict_of, telegram_for}
 use Rattle.service.specs.declared.reading.Way.{Way}
-use Rattle.service.specs.Lemmas.Verdict.{bad-fields, good-fields}
+use Rattle.service.specs.Lemmas.Verdict.{bad_fields, good_fields_lem}
 use borrow.Author.Rules.{rules}
 use Rattle.service_writer.proofs.write.Statement.{statement}
 use Rattle.service_writer.proofs.write.Tie as tie
@@ -35,65 +35,65 @@ entry c = c.before.before.before.before
 -- the header that was made is the one of the definition
 made : (c : tie.After-header-of) →
     let a = (entry c).args in
-    c.header_of.result ≡ headerFor a.da a.sa a.fc a.content
+    c.header_of.result ≡ header_for a.da a.sa a.fc a.content
 made c =
     let a = (entry c).args in
-    c.header_of.ensures ∙ ap (λ (s : Service). headerOf s a.da a.sa a.fc) c.before.service-of.ensures
+    c.header_of.ensures ∙ ap (λ (s : Service). header_of s a.da a.sa a.fc) c.before.service-of.ensures
 
 -- the telegram with that header
 written : (c : tie.After-header-of) →
     let a = (entry c).args in
-    telegramOf a.format c.header_of.result (bytesFor a.content a.part.now) ≡ telegramFor a.format a.da a.sa a.fc a.content a.part.now
-unfolding telegramFor
+    telegram_of a.format c.header_of.result (bytes_for a.content a.part.now) ≡ telegram_for a.format a.da a.sa a.fc a.content a.part.now
+unfolding telegram_for
 written c =
     let a = (entry c).args in
-    ap (λ (h : Header). telegramOf a.format h (bytesFor a.content a.part.now)) (made c)
+    ap (λ (h : Header). telegram_of a.format h (bytes_for a.content a.part.now)) (made c)
 
 -- how long the data are
 sized : (c : tie.After-fixed-length) →
     let a = (entry c.before).args in
-    c.fixed-length.result + length a.part.now ≡ fixedLength a.content + length a.part.now
+    c.fixed-length.result + length a.part.now ≡ fixed_length a.content + length a.part.now
 sized c = ap (λ (n : ℕ). n + length (entry c.before).args.part.now) c.fixed-length.ensures
 
 -- what the test says is what the definition asks
 tested : (c : tie.After-writable-with) →
     let a = (entry c.before.before).args in
-    goodFields a.format (headerFor a.da a.sa a.fc a.content) (fixedLength a.content + length a.part.now) ≡ c.writable-with.result
+    good_fields a.format (header_for a.da a.sa a.fc a.content) (fixed_length a.content + length a.part.now) ≡ c.writable-with.result
 tested c =
     let f = c.before in
     let a = (entry f.before).args in
-    ap (goodFields a.format (headerFor a.da a.sa a.fc a.content)) (sym (sized f))
-    ∙ ap (λ (h : Header). goodFields a.format h (f.fixed-length.result + length a.part.now)) (sym (made f.before))
+    ap (good_fields a.format (header_for a.da a.sa a.fc a.content)) (sym (sized f))
+    ∙ ap (λ (h : Header). good_fields a.format h (f.fixed-length.result + length a.part.now)) (sym (made f.before))
     ∙ sym c.writable-with.ensures
 
 -- what the test leaves: the verdict of the route
-abbrev verdictAt : tie.After-header-of → Verdict
-verdictAt c =
+abbrev verdict_at : tie.After-header-of → Verdict
+verdict_at c =
     let a = (entry c).args in
-    verdictOf a.format a.da a.sa a.fc a.content a.part.now
+    verdict_of a.format a.da a.sa a.fc a.content a.part.now
 
 fields : (c : tie.Then1) →
     let f = c.before.before in
     let a = (entry f.before).args in
-    goodFields a.format f.before.header_of.result (f.fixed-length.result + length a.part.now) ≡ true
+    good_fields a.format f.before.header_of.result (f.fixed-length.result + length a.part.now) ≡ true
 fields c = sym c.before.writable-with.ensures ∙ c.if1.true
 
 routed : (c : tie.After-route-for) {r : Route} → c.route-for.result ≡ r →
     let e = c.before.before.before.before in
     let a = (entry e).args in
-    verdictAt e ≡ routeVerdict r a.content a.part.now
+    verdict_at e ≡ route_verdict r a.content a.part.now
 routed c {r} g =
     let e = c.before.before.before.before in
     let a = (entry e).args in
     let service = e.before.service-of in
-    let route : routeOf (headerFor a.da a.sa a.fc a.content) ≡ r =
-    ap routeOf (sym (made e) ∙ e.header_of.ensures) ∙ header-route service.result a.da a.sa a.fc ∙ sym c.route-for.ensures ∙ g
+    let route : route_of (header_for a.da a.sa a.fc a.content) ≡ r =
+    ap route_of (sym (made e) ∙ e.header_of.ensures) ∙ header_route service.result a.da a.sa a.fc ∙ sym c.route-for.ensures ∙ g
     in
-    good-fields a.format a.da a.sa a.fc a.content a.part.now (tested c.before.before ∙ c.before.if1.true)
-    ∙ ap (λ (x : Route). routeVerdict x a.content a.part.now) route
+    good_fields_lem a.format a.da a.sa a.fc a.content a.part.now (tested c.before.before ∙ c.before.if1.true)
+    ∙ ap (λ (x : Route). route_verdict x a.content a.part.now) route
 
 -- a route that leads somewhere has its way's verdict
-led : (r : Route) (c : Content) (part : List ℕ) → OneOf (0 ∷ 1 ∷ []) (Declared.tag_of route-type.the_type r) → routeVerdict r c part ≡ wayVerdict (wayBy r) c part
+led : (r : Route) (c : Content) (part : List ℕ) → OneOf (0 ∷ 1 ∷ []) (Declared.tag_of route-type.the_type r) → route_verdict r c part ≡ way_verdict (way_by r) c part
 led (route.Call s) c part h = refl
 led (route.Answer a) c part h = refl
 led route.Nowhere c part h = absurd (miss (0 ∷ 1 ∷ []) 2 tt h)
@@ -121,8 +121,8 @@ add-len c =
     let t = c.before.before in
     let f = t.before.before in
     let a = (entry f.before).args in
-    let size = bytes-long a.content a.part.now ∙ sym (sized f) in
-    omega (arith, (fit a.format f.before.header_of.result (bytesFor a.content a.part.now) size (fields t)).most)
+    let size = bytes_long a.content a.part.now ∙ sym (sized f) in
+    omega (arith, (fit a.format f.before.header_of.result (bytes_for a.content a.part.now) size (fields t)).most)
 
 way-of-requires : tie.Need-way-of-requires
 way-of-requires c κs = search rules
@@ -143,15 +143,15 @@ returns-2 c =
     let r = y.before.before in
     let e = r.before.before.before.before in
     let a = (entry e).args in
-    let verdict : verdictAt e ≡ wayVerdict y.Way-of.result a.content a.part.now =
-    routed r refl ∙ led r.route-for.result a.content a.part.now y.before.match.keys2 ∙ ap (λ (x : Way). wayVerdict x a.content a.part.now) (sym y.Way-of.ensures)
+    let verdict : verdict_at e ≡ way_verdict y.Way-of.result a.content a.part.now =
+    routed r refl ∙ led r.route-for.result a.content a.part.now y.before.match.keys2 ∙ ap (λ (x : Way). way_verdict x a.content a.part.now) (sym y.Way-of.ensures)
     in
     rw (verdict, ← written e) w.write-way.ensures
 
 returns-3 : tie.Need-returns-3
 returns-3 c =
     let a = (entry c.before.before.before).args in
-    rw (bad-fields a.format a.da a.sa a.fc a.content a.part.now (tested c.before ∙ c.if1.false)) (refused 12 _ _)
+    rw (bad_fields a.format a.da a.sa a.fc a.content a.part.now (tested c.before ∙ c.if1.false)) (refused 12 _ _)
 
 pub write_spec : {M : Type 1} → statement M
 write_spec =

@@ -19,13 +19,13 @@ same_length : tie.Need-same-length
 same_length c = search rules
 
 returns : tie.Need-returns
-returns c = let w = c.before.before in rw w.before.before.enum_told.given.1 w.write-call.ensures
+returns c = let w = c.before.before in rw w.before.before.enum_told.given.1 w.write_call.ensures
 
 same-length-2 : tie.Need-same-length-2
 same-length-2 c = search rules
 
 returns-2 : tie.Need-returns-2
-returns-2 c = let w = c.before.before in rw w.before.before.enum-told2.given.1 w.write-answer.ensures
+returns-2 c = let w = c.before.before in rw w.before.before.enum-told2.given.1 w.write_answer.ensures
 
 pub write-data-spec : {M : Type 1} → statement M
 write-data-spec =

@@ -7,13 +7,13 @@ use native.Mathlib.Omega.{arith}
 use lib.Dec.{ltb}
 use lib.ListN.{length}
 use borrow.Author.Tests.{lt-ltb, le-ltb, ltb-false}
-use Rattle.octets.specs.Choice.{pick, by-pick}
-use Rattle.fdl.specs.Around.{goodFields}
+use Rattle.octets.specs.Choice.{pick, by_pick}
+use Rattle.fdl.specs.Around.{good_fields}
 use Rattle.fdl.specs.Lemmas.Around.{Fit, fit}
-use Rattle.content.specs.Laws.{bytes-long}
-use Rattle.content.specs.Writing.{bytesFor}
-use Rattle.service.specs.Writing.{wayVerdict}
-use Rattle.service.specs.Lemmas.Placed.{without-room, data-refused, data-stored}
+use Rattle.content.specs.Laws.{bytes_long}
+use Rattle.content.specs.Writing.{bytes_for}
+use Rattle.service.specs.Writing.{way_verdict}
+use Rattle.service.specs.Lemmas.Placed.{without_room, data_refused, data_stored}
 use borrow.Author.Rules.{rules}
 use Rattle.service_writer.proofs.write_way.Statement.{statement}
 use Rattle.service_writer.proofs.write_way.Tie as tie
@@ -22,37 +22,37 @@ abbrev entry : tie.After-user-start → tie.Start
 entry c = c.before.before.before
 
 -- the data, and that they are of the length that was given
-abbrev dataAt : tie.Start → List ℕ
-dataAt b = bytesFor b.args.content b.args.part.now
+abbrev data_at : tie.Start → List ℕ
+data_at b = bytes_for b.args.content b.args.part.now
 
-sized : (b : tie.Start) → length (dataAt b) ≡ b.args.len
-sized b = bytes-long b.args.content b.args.part.now ∙ sym b.requires.0
+sized : (b : tie.Start) → length (data_at b) ≡ b.args.len
+sized b = bytes_long b.args.content b.args.part.now ∙ sym b.requires.0
 
-good : (b : tie.Start) → goodFields b.args.format b.args.header (length (dataAt b)) ≡ true
+good : (b : tie.Start) → good_fields b.args.format b.args.header (length (data_at b)) ≡ true
 good b = rw (sized b) b.requires.1
 
-fitAt : (b : tie.Start) → Fit b.args.format b.args.header (dataAt b) (length (dataAt b))
-fitAt b = fit b.args.format b.args.header (dataAt b) refl (good b)
+fit_at : (b : tie.Start) → Fit b.args.format b.args.header (data_at b) (length (data_at b))
+fit_at b = fit b.args.format b.args.header (data_at b) refl (good b)
 
 -- where the data's writer is lent the slice from
 module _ {from room whole : ℕ} (start : ℕ) (e : from ≡ pick (ltb room whole) room start) where
-  at-end : room < whole → from ≡ room
-  at-end h = e ∙ simp (lt-ltb _ _ h)
+  at_end : room < whole → from ≡ room
+  at_end h = e ∙ simp (lt-ltb _ _ h)
 
   at_place : whole ≤ room → from ≡ start
   at_place h = e ∙ simp (le-ltb _ _ h)
 
   inside : start ≤ whole → from ≤ room
-  inside h = rw e (by-pick (λ (n : ℕ). n ≤ room) (ltb room whole) (λ _. omega arith) (λ f. omega (arith, ltb-false room whole f)))
+  inside h = rw e (by_pick (λ (n : ℕ). n ≤ room) (ltb room whole) (λ _. omega arith) (λ f. omega (arith, ltb-false room whole f)))
 
 user-start-requires : tie.Need-user-start-requires
 user-start-requires c κs = search rules
 
 add-whole : tie.Need-overflow-add-whole
-add-whole c = omega (arith, sized (entry c), c.user-start.ensures, (fitAt (entry c)).most)
+add-whole c = omega (arith, sized (entry c), c.user-start.ensures, (fit_at (entry c)).most)
 
 add-whole-2 : tie.Need-overflow-add-whole-2
-add-whole-2 c = omega (arith, sized (entry c), c.user-start.ensures, (fitAt (entry c)).most)
+add-whole-2 c = omega (arith, sized (entry c), c.user-start.ensures, (fit_at (entry c)).most)
 
 lent-from-requires : tie.Need-lent-from-requires
 lent-from-requires c κs = search rules
@@ -92,9 +92,9 @@ returns c =
     let s = p.before in
     let b = entry s in
     let a = b.args in
-    let e = at-end s.user-start.result p.lent-from.ensures t.if1.true in
+    let e = at_end s.user-start.result p.lent-from.ensures t.if1.true in
     let o =
-    without-room a.format a.header (dataAt b) a.out.now (wayVerdict a.way a.content a.part.now) (good b) (omega (arith, sized b, s.user-start.ensures, t.if1.true)) (rw e at w.write-data.ensures.0)
+    without_room a.format a.header (data_at b) a.out.now (way_verdict a.way a.content a.part.now) (good b) (omega (arith, sized b, s.user-start.ensures, t.if1.true)) (rw e at w.write-data.ensures.0)
     (rw e at w.write-data.ensures.1)
     in
     (c.no_room.ensures ∙ o.0, rw e o.1)
@@ -113,8 +113,8 @@ returns-2 c =
     let b = entry s in
     let a = b.args in
     let e = at_place s.user-start.result p.lent-from.ensures t.if1.false in
-    data-stored a.format a.header (dataAt b) a.out.now s.user-start.result s.user-start.ensures
-    (wayVerdict a.way a.content a.part.now) (good b) (omega (arith, sized b, t.if1.false)) (sym g.written.given.1 ∙ rw e at w.write-data.ensures.0) (rw e at w.write-data.ensures.1)
+    data_stored a.format a.header (data_at b) a.out.now s.user-start.result s.user-start.ensures
+    (way_verdict a.way a.content a.part.now) (good b) (omega (arith, sized b, t.if1.false)) (sym g.written.given.1 ∙ rw e at w.write-data.ensures.0) (rw e at w.write-data.ensures.1)
     (rw e at k.write-around.ensures.0) (rw e at k.write-around.ensures.1)
 
 same-length-3 : tie.Need-same-length-3
@@ -131,8 +131,8 @@ returns-3 c =
     let a = b.args in
     let e = at_place s.user-start.result p.lent-from.ensures t.if1.false in
     rw e
-    (data-refused a.format a.header (dataAt b) a.out.now s.user-start.result s.user-start.ensures
-    (wayVerdict a.way a.content a.part.now) (omega (arith, sized b, t.if1.false)) (sym g.written2.given.1 ∙ rw e at w.write-data.ensures.0) (rw e at w.write-data.ensures.1))
+    (data_refused a.format a.header (data_at b) a.out.now s.user-start.result s.user-start.ensures
+    (way_verdict a.way a.content a.part.now) (omega (arith, sized b, t.if1.false)) (sym g.written2.given.1 ∙ rw e at w.write-data.ensures.0) (rw e at w.write-data.ensures.1))
 
 pub write-way-spec : {M : Type 1} → statement M
 write-way-spec =

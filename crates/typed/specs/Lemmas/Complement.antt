@@ -38,14 +38,14 @@ module _ (w : Width) (z : ℤ) (f : SFits w z) where
         by (pos n) g t = absurd (let h : n < 0 = ltb-true n 0 t in omega arith)
         by (negsuc k) g t = to_z_pos w (omega (arith, half w, g.sfits))
 
-    pub flipped-fits : T (non_neg (to_z w (ones w - of_z w z))) × Fits w (nat_abs (to_z w (ones w - of_z w z)))
-    flipped-fits = cast w (to_z w (ones w - of_z w z)) (ones w - of_z w z) flipped (omega (arith, low))
+    pub flipped_fits : T (non_neg (to_z w (ones w - of_z w z))) × Fits w (nat_abs (to_z w (ones w - of_z w z)))
+    flipped_fits = cast w (to_z w (ones w - of_z w z)) (ones w - of_z w z) flipped (omega (arith, low))
 
     pub flipped_below : nat_abs (to_z w (ones w - of_z w z)) ≤ ones w
     flipped_below = omega (arith, ap nat_abs flipped)
 
-    pub flipped-back : ones w - nat_abs (to_z w (ones w - of_z w z)) ≡ of_z w z
-    flipped-back = omega (arith, ap nat_abs flipped, low)
+    pub flipped_back : ones w - nat_abs (to_z w (ones w - of_z w z)) ≡ of_z w z
+    flipped_back = omega (arith, ap nat_abs flipped, low)
 
   -- any other number is its own pattern
   module _ (positive : lt_z (to_z w (of_z w z)) (pos 0) ≡ false) where
@@ -56,8 +56,8 @@ module _ (w : Width) (z : ℤ) (f : SFits w z) where
         by (pos n) g t = to_z-of_z g
         by (negsuc k) g t = absurd (subst T t tt)
 
-    pub kept-fits : T (non_neg (to_z w (of_z w z))) × Fits w (nat_abs (to_z w (of_z w z)))
-    kept-fits = cast w (to_z w (of_z w z)) (of_z w z) kept low
+    pub kept_fits : T (non_neg (to_z w (of_z w z))) × Fits w (nat_abs (to_z w (of_z w z)))
+    kept_fits = cast w (to_z w (of_z w z)) (of_z w z) kept low
 
     pub kept_back : nat_abs (to_z w (of_z w z)) ≡ of_z w z
     kept_back = ap nat_abs kept

@@ -1,19 +1,19 @@
 -- `acyclic_forms::forms::ranged` meets its contract. The definition has the same tests in the same order.
 use borrow.Author.Tests.{lt-ltb, le-ltb}
-use Rattle.acyclic.specs.Forms.{rangedOf}
+use Rattle.acyclic.specs.Forms.{ranged_of}
 use Rattle.acyclic_forms.proofs.forms.ranged.Statement.{statement}
 use Rattle.acyclic_forms.proofs.forms.ranged.Tie as tie
 
 returns : tie.Need-returns
-unfolding rangedOf
+unfolding ranged_of
 returns c = simp (lt-ltb _ _ c.if1.true)
 
 returns-2 : tie.Need-returns-2
-unfolding rangedOf
+unfolding ranged_of
 returns-2 c = simp (le-ltb _ _ c.before.if1.false, lt-ltb _ _ c.if2.true)
 
 returns-3 : tie.Need-returns-3
-unfolding rangedOf
+unfolding ranged_of
 returns-3 c = simp (le-ltb _ _ c.before.if1.false, le-ltb _ _ c.if2.false)
 
 pub ranged-spec : {M : Type 1} → statement M

@@ -1,7 +1,7 @@
 -- `acyclic_forms::numbers::negative_number` meets its contract, case by case.
 use mathlib.Core.Path.{sym, ap}
 use borrow.Author.Rules.{rules}
-use Rattle.acyclic.specs.Numbers.{negativeNumber}
+use Rattle.acyclic.specs.Numbers.{negative_number}
 use Rattle.acyclic_forms.proofs.numbers.negative_number.Statement.{statement}
 use Rattle.acyclic_forms.proofs.numbers.negative_number.Tie as tie
 
@@ -18,16 +18,16 @@ enum-told-4 : tie.Need-enum-told-4
 enum-told-4 c = search rules
 
 returns : tie.Need-returns
-returns c = sym (ap negativeNumber c.enum_told.given.1)
+returns c = sym (ap negative_number c.enum_told.given.1)
 
 returns-2 : tie.Need-returns-2
-returns-2 c = sym (ap negativeNumber c.enum-told2.given.1)
+returns-2 c = sym (ap negative_number c.enum-told2.given.1)
 
 returns-3 : tie.Need-returns-3
-returns-3 c = sym (ap negativeNumber c.enum-told3.given.1)
+returns-3 c = sym (ap negative_number c.enum-told3.given.1)
 
 returns-4 : tie.Need-returns-4
-returns-4 c = sym (ap negativeNumber c.enum-told4.given.1)
+returns-4 c = sym (ap negative_number c.enum-told4.given.1)
 
 pub negative-number-spec : {M : Type 1} → statement M
 negative-number-spec =

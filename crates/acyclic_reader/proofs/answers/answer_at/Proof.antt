@@ -1,8 +1,8 @@
 -- `acyclic_reader::answers::answer_at` meets its contract. The check has the verdict.
 use mathlib.Core.Path.{sym, ap}
 use borrow.Author.Rules.{rules}
-use Rattle.acyclic.specs.Forms.{verdictIn}
-use Rattle.acyclic.specs.Answers.{answerAt}
+use Rattle.acyclic.specs.Forms.{verdict_in}
+use Rattle.acyclic.specs.Answers.{answer_at}
 use Rattle.acyclic.specs.declared.forms.Check.{Check}
 use Rattle.acyclic_reader.proofs.answers.answer_at.Statement.{statement}
 use Rattle.acyclic_reader.proofs.answers.answer_at.Tie as tie
@@ -16,12 +16,12 @@ enum_told c = search rules
 returns : tie.Need-returns
 returns c =
     let a = c.before.before.before.args in
-    sym (ap (λ (k : Check). answerAt a.start a.count (verdictIn k) a.answer) c.before.check.given.1)
+    sym (ap (λ (k : Check). answer_at a.start a.count (verdict_in k) a.answer) c.before.check.given.1)
 
 returns-2 : tie.Need-returns-2
 returns-2 c =
     let a = c.before.before.args in
-    sym (ap (λ (k : Check). answerAt a.start a.count (verdictIn k) a.answer) c.enum_told.given.1)
+    sym (ap (λ (k : Check). answer_at a.start a.count (verdict_in k) a.answer) c.enum_told.given.1)
 
 pub answer-at-spec : {M : Type 1} → statement M
 answer-at-spec = tie.close (tie.spec enum-known-check enum_told returns returns-2)

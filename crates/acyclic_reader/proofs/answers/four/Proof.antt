@@ -1,7 +1,7 @@
 -- `acyclic_reader::answers::four` meets its contract. The definition goes by the same numbers, each with the same form.
 use borrow.Author.Tests.{ne_eqb}
 use borrow.Author.Rules.{rules}
-use Rattle.acyclic.specs.Answers.{fourOf}
+use Rattle.acyclic.specs.Answers.{four_of}
 use Rattle.acyclic_reader.proofs.answers.four.Statement.{statement}
 use Rattle.acyclic_reader.proofs.answers.four.Tie as tie
 
@@ -33,23 +33,23 @@ negative-by-requires : tie.Need-negative-by-requires
 negative-by-requires c κs = search rules
 
 returns : tie.Need-returns
-unfolding fourOf
-returns c = simp c.before.before.match.keys1 (rw c.before.counted-as.ensures at c.answer_at.ensures)
+unfolding four_of
+returns c = simp c.before.before.match.keys1 (rw c.before.counted_as.ensures at c.answer_at.ensures)
 
 returns-2 : tie.Need-returns-2
-unfolding fourOf
+unfolding four_of
 returns-2 c = simp c.before.before.match.keys2 (rw c.before.ranged.ensures at c.answer-at2.ensures)
 
 returns-3 : tie.Need-returns-3
-unfolding fourOf
+unfolding four_of
 returns-3 c = simp c.before.before.match.keys3 (rw c.before.alone.ensures at c.answer-at3.ensures)
 
 returns-4 : tie.Need-returns-4
-unfolding fourOf
+unfolding four_of
 returns-4 c = simp c.before.before.match.keys4 (rw c.before.counted-as2.ensures at c.answer-at4.ensures)
 
 returns-5 : tie.Need-returns-5
-unfolding fourOf
+unfolding four_of
 returns-5 c =
     let r = c.before.match.rest in
     simp (ne_eqb _ _ r.1, ne_eqb _ _ r.0.1, ne_eqb _ _ r.0.0.1, ne_eqb _ _ r.0.0.0.1) c.negative-by.ensures

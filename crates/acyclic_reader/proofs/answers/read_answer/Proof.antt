@@ -3,18 +3,18 @@ use mathlib.Core.Path.{◌≡◌, sym, ap, ◌∙◌}
 use mathlib.Core.Bool.{not}
 use borrow.Author.Tests.{lt-ltb, le-ltb, eq-eqb, ne_eqb}
 use borrow.Author.Rules.{rules}
-use Rattle.acyclic.specs.Forms.{byNumber, whereAllowed}
-use Rattle.acyclic.specs.Answers.{refused, idleOf, fourOf, readAnswerOf}
+use Rattle.acyclic.specs.Forms.{by_number, where_allowed}
+use Rattle.acyclic.specs.Answers.{refused, idle_of, four_of, read_answer_of}
 use Rattle.acyclic_reader.proofs.answers.read_answer.Statement.{statement}
 use Rattle.acyclic_reader.proofs.answers.read_answer.Tie as tie
 
 -- what the first two tests leave
-allowed : (c : tie.Else2) → let s = c.before.before.before.before.before.args.bytes.now in readAnswerOf s ≡ byNumber refused idleOf fourOf s
-unfolding whereAllowed readAnswerOf
+allowed : (c : tie.Else2) → let s = c.before.before.before.before.before.args.bytes.now in read_answer_of s ≡ by_number refused idle_of four_of s
+unfolding where_allowed read_answer_of
 allowed c = simp (ne_eqb _ _ c.before.before.before.if1.false, ap not (sym c.before.allowed-in-answers.ensures) ∙ c.if2.false)
 
 returns : tie.Need-returns
-unfolding whereAllowed readAnswerOf
+unfolding where_allowed read_answer_of
 returns c = simp (eq-eqb _ _ c.if1.true)
 
 shared-slice-read-number : tie.Need-shared-slice-read-number
@@ -24,7 +24,7 @@ allowed-in-answers-requires : tie.Need-allowed-in-answers-requires
 allowed-in-answers-requires c κs = search rules
 
 returns-2 : tie.Need-returns-2
-unfolding whereAllowed readAnswerOf
+unfolding where_allowed read_answer_of
 returns-2 c = simp (ne_eqb _ _ c.before.before.before.if1.false, ap not (sym c.before.allowed-in-answers.ensures) ∙ c.if2.true)
 
 sub-count : tie.Need-overflow-sub-count
@@ -37,13 +37,13 @@ answer-at-requires : tie.Need-answer-at-requires
 answer-at-requires c κs = search rules
 
 returns-3 : tie.Need-returns-3
-unfolding byNumber
+unfolding by_number
 returns-3 c =
     let t = c.before.before in
     (rw c.before.alone.ensures at c.answer_at.ensures) ∙ sym (allowed t.before ∙ simp (eq-eqb _ _ t.if3.true))
 
 returns-4 : tie.Need-returns-4
-unfolding byNumber
+unfolding by_number
 returns-4 c = sym (allowed c.before.before ∙ simp (ne_eqb _ _ c.before.if3.false, lt-ltb _ _ c.if4.true))
 
 shared-slice-read-four : tie.Need-shared-slice-read-four
@@ -62,7 +62,7 @@ four-requires : tie.Need-four-requires
 four-requires c κs = search rules
 
 returns-5 : tie.Need-returns-5
-unfolding byNumber
+unfolding by_number
 returns-5 c =
     let e = c.before.before.before.before in
     c.four.ensures ∙ sym (allowed e.before.before ∙ simp (ne_eqb _ _ e.before.if3.false, le-ltb _ _ e.if4.false))

@@ -3,18 +3,18 @@ use mathlib.Core.Path.{◌≡◌, sym, ap, ◌∙◌}
 use mathlib.Core.Bool.{not}
 use borrow.Author.Tests.{lt-ltb, le-ltb, eq-eqb, ne_eqb}
 use borrow.Author.Rules.{rules}
-use Rattle.acyclic.specs.Forms.{byNumber, whereAllowed}
-use Rattle.acyclic.specs.Calls.{refused, idleOf, fourOf, readCallOf}
+use Rattle.acyclic.specs.Forms.{by_number, where_allowed}
+use Rattle.acyclic.specs.Calls.{refused, idle_of, four_of, read_call_of}
 use Rattle.acyclic_reader.proofs.calls.read_call.Statement.{statement}
 use Rattle.acyclic_reader.proofs.calls.read_call.Tie as tie
 
 -- what the first two tests leave
-allowed : (c : tie.Else2) → let s = c.before.before.before.before.before.args.bytes.now in readCallOf s ≡ byNumber refused idleOf fourOf s
-unfolding whereAllowed readCallOf
+allowed : (c : tie.Else2) → let s = c.before.before.before.before.before.args.bytes.now in read_call_of s ≡ by_number refused idle_of four_of s
+unfolding where_allowed read_call_of
 allowed c = simp (ne_eqb _ _ c.before.before.before.if1.false, ap not (sym c.before.allowed-in-calls.ensures) ∙ c.if2.false)
 
 returns : tie.Need-returns
-unfolding whereAllowed readCallOf
+unfolding where_allowed read_call_of
 returns c = simp (eq-eqb _ _ c.if1.true)
 
 shared-slice-read-number : tie.Need-shared-slice-read-number
@@ -24,7 +24,7 @@ allowed-in-calls-requires : tie.Need-allowed-in-calls-requires
 allowed-in-calls-requires c κs = search rules
 
 returns-2 : tie.Need-returns-2
-unfolding whereAllowed readCallOf
+unfolding where_allowed read_call_of
 returns-2 c = simp (ne_eqb _ _ c.before.before.before.if1.false, ap not (sym c.before.allowed-in-calls.ensures) ∙ c.if2.true)
 
 sub-count : tie.Need-overflow-sub-count
@@ -37,13 +37,13 @@ call-at-requires : tie.Need-call-at-requires
 call-at-requires c κs = search rules
 
 returns-3 : tie.Need-returns-3
-unfolding byNumber
+unfolding by_number
 returns-3 c =
     let t = c.before.before in
     (rw c.before.alone.ensures at c.call_at.ensures) ∙ sym (allowed t.before ∙ simp (eq-eqb _ _ t.if3.true))
 
 returns-4 : tie.Need-returns-4
-unfolding byNumber
+unfolding by_number
 returns-4 c = sym (allowed c.before.before ∙ simp (ne_eqb _ _ c.before.if3.false, lt-ltb _ _ c.if4.true))
 
 shared-slice-read-four : tie.Need-shared-slice-read-four
@@ -62,7 +62,7 @@ four-requires : tie.Need-four-requires
 four-requires c κs = search rules
 
 returns-5 : tie.Need-returns-5
-unfolding byNumber
+unfolding by_number
 returns-5 c =
     let e = c.before.before.before.before in
     c.four.ensures ∙ sym (allowed e.before.before ∙ simp (ne_eqb _ _ e.before.if3.false, le-ltb _ _ e.if4.false))

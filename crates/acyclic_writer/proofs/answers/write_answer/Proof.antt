@@ -57,7 +57,7 @@ same_length c = search rules
 returns : tie.Need-returns
 returns c =
     let w = c.before.before in
-    rw w.before.before.before.answer.given.1 w.write-counted.ensures
+    rw w.before.before.before.answer.given.1 w.write_counted.ensures
 
 same-length-2 : tie.Need-same-length-2
 same-length-2 c = search rules

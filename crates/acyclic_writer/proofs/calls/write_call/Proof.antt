@@ -4,7 +4,7 @@ use mathlib.Core.List.{[]}
 use native.Mathlib.Omega.{arith}
 use borrow.Author.Tests.{lt-ltb}
 use Rattle.octets.specs.Front.{refused, stored}
-use Rattle.acyclic.specs.Forms.{aloneOf}
+use Rattle.acyclic.specs.Forms.{alone_of}
 use Rattle.acyclic.specs.Lemmas.Forms.{no_bytes}
 use borrow.Author.Rules.{rules}
 use Rattle.acyclic_writer.proofs.calls.write_call.Statement.{statement}
@@ -50,13 +50,13 @@ write-counted-requires-2 : tie.Need-write-counted-requires-2
 write-counted-requires-2 c κs = search rules
 
 returns : tie.Need-returns
-unfolding aloneOf
+unfolding alone_of
 returns c =
     let a = c.before.before.before.before.before.args in
     rw c.before.enum_told.given.1 (simp (lt-ltb _ _ c.if1.true) (refused 20 a.part.now a.out.now))
 
 returns-2 : tie.Need-returns-2
-unfolding aloneOf
+unfolding alone_of
 returns-2 c =
     let a = c.before.before.before.before.before.args in
     let none : a.part.now ≡ [] = no_bytes a.part.now c.if1.false in
@@ -77,7 +77,7 @@ same-length-2 c = search rules
 returns-4 : tie.Need-returns-4
 returns-4 c =
     let w = c.before.before in
-    rw w.before.before.before.call2.given.1 w.write-counted.ensures
+    rw w.before.before.before.call2.given.1 w.write_counted.ensures
 
 same-length-3 : tie.Need-same-length-3
 same-length-3 c = search rules

@@ -3,7 +3,7 @@ use native.Mathlib.Omega.{arith}
 use lib.ListN.{length-set}
 use borrow.Author.Rules.{rules}
 use Rattle.octets.specs.Front.{stores}
-use Rattle.acyclic_writer.specs.Forms.{frontBytes}
+use Rattle.acyclic_writer.specs.Forms.{front_bytes}
 use Rattle.acyclic_writer.proofs.forms.put.Statement.{statement}
 use Rattle.acyclic_writer.proofs.forms.put.Tie as tie
 
@@ -23,7 +23,7 @@ same_length : tie.Need-same-length
 same_length c = search rules
 
 returns : tie.Need-returns
-returns c = stores (frontBytes c.args.front) c.args.out.now c.requires
+returns c = stores (front_bytes c.args.front) c.args.out.now c.requires
 
 pub put_spec : {M : Type 1} → statement M
 put_spec =

@@ -1,7 +1,7 @@
 -- `acyclic_writer::forms::store` meets its contract. Four and the part's length are all bytes.
 use borrow.Author.Rules.{rules}
-use Rattle.octets.specs.Front.{both-too-small, both-written}
-use Rattle.acyclic_writer.specs.Forms.{frontBytes}
+use Rattle.octets.specs.Front.{both_too_small, both_written}
+use Rattle.acyclic_writer.specs.Forms.{front_bytes}
 use Rattle.acyclic_writer.proofs.forms.store.Statement.{statement}
 use Rattle.acyclic_writer.proofs.forms.store.Tie as tie
 
@@ -11,7 +11,7 @@ add-if1 c = search rules
 returns : tie.Need-returns
 returns c =
     let a = c.before.before.before.args in
-    both-too-small (frontBytes a.front) a.part.now a.out.now c.if1.true
+    both_too_small (front_bytes a.front) a.part.now a.out.now c.if1.true
 
 put-requires : tie.Need-put-requires
 put-requires c κs = search rules
@@ -28,7 +28,7 @@ returns-2 c =
     let p = r.before.before.before.before in
     let e = p.before.before in
     let s = r.store-behind.ensures in
-    both-written p.put.ensures e.before.before.before.args.part.now s.0 s.1 e.if1.false
+    both_written p.put.ensures e.before.before.before.args.part.now s.0 s.1 e.if1.false
 
 pub store_spec : {M : Type 1} → statement M
 store_spec =

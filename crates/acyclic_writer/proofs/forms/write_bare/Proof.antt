@@ -5,7 +5,7 @@ use native.Mathlib.Omega.{arith}
 use borrow.Author.Rules.{rules}
 use borrow.Author.Tests.{lt-ltb}
 use Rattle.octets.specs.Front.{refused, too_small, stored, stores}
-use Rattle.acyclic.specs.Forms.{aloneOf}
+use Rattle.acyclic.specs.Forms.{alone_of}
 use Rattle.acyclic.specs.Lemmas.Forms.{no_bytes}
 use Rattle.acyclic_writer.proofs.forms.write_bare.Statement.{statement}
 use Rattle.acyclic_writer.proofs.forms.write_bare.Tie as tie
@@ -15,13 +15,13 @@ none : (c : tie.Else1) → c.before.args.part.now ≡ []
 none c = no_bytes c.before.args.part.now c.if1.false
 
 returns : tie.Need-returns
-unfolding aloneOf
+unfolding alone_of
 returns c =
     let a = c.before.args in
     simp (lt-ltb _ _ c.if1.true) (refused 20 (a.number ∷ a.part.now) a.out.now)
 
 returns-2 : tie.Need-returns-2
-unfolding aloneOf
+unfolding alone_of
 returns-2 c =
     let a = c.before.before.args in
     rw (none c.before) (too_small (a.number ∷ []) a.out.now (omega arith))
@@ -33,7 +33,7 @@ same_length : tie.Need-same-length
 same_length c = search rules
 
 returns-3 : tie.Need-returns-3
-unfolding aloneOf
+unfolding alone_of
 returns-3 c =
     let a = c.before.before.args in
     let l = a.out.now in

@@ -5,14 +5,14 @@ use native.Mathlib.Omega.{arith}
 use lib.ListN.{length}
 use borrow.Author.Rules.{rules}
 use Rattle.octets.specs.Front.{fine, refused}
-use Rattle.acyclic.specs.Forms.{verdictIn, countedOf, four}
-use Rattle.acyclic.specs.Lemmas.Forms.{counted-within}
+use Rattle.acyclic.specs.Forms.{verdict_in, counted_of, four}
+use Rattle.acyclic.specs.Lemmas.Forms.{counted_within}
 use Rattle.acyclic_writer.proofs.forms.write_counted.Statement.{statement}
 use Rattle.acyclic_writer.proofs.forms.write_counted.Tie as tie
 
 -- where the check came out fine
-good : (c : tie.After-enum-told) → let a = c.before.before.before.before.before.args in countedOf a.least (length a.part.now) ≡ fine
-good c = sym c.before.before.counted.ensures ∙ ap verdictIn c.enum_told.given.1
+good : (c : tie.After-enum-told) → let a = c.before.before.before.before.before.args in counted_of a.least (length a.part.now) ≡ fine
+good c = sym c.before.before.counted.ensures ∙ ap verdict_in c.enum_told.given.1
 
 counted-requires : tie.Need-counted-requires
 counted-requires c κs = search rules
@@ -26,7 +26,7 @@ enum_told c = search rules
 cast-length : tie.Need-overflow-cast-length
 cast-length c =
     let a = c.before.before.before.before.before.args in
-    omega (arith, counted-within a.least (length a.part.now) (good c))
+    omega (arith, counted_within a.least (length a.part.now) (good c))
 
 store-requires : tie.Need-store-requires
 store-requires c κs = search rules
@@ -36,7 +36,7 @@ returns c =
     let k = c.before.before.before in
     let a = k.before.before.before.args in
     let p = a.part.now in
-    rw (sym k.counted.ensures ∙ ap verdictIn c.before.check.given.1) (refused _ (four a.number a.slot a.index (length p) ++ p) a.out.now)
+    rw (sym k.counted.ensures ∙ ap verdict_in c.before.check.given.1) (refused _ (four a.number a.slot a.index (length p) ++ p) a.out.now)
 
 same_length : tie.Need-same-length
 same_length c = search rules

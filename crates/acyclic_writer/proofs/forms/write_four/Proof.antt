@@ -2,7 +2,7 @@
 use mathlib.Core.List.{◌++◌}
 use borrow.Author.Rules.{rules}
 use Rattle.octets.specs.Front.{refused}
-use Rattle.acyclic_writer.specs.Forms.{frontBytes}
+use Rattle.acyclic_writer.specs.Forms.{front_bytes}
 use Rattle.acyclic_writer.proofs.forms.write_four.Statement.{statement}
 use Rattle.acyclic_writer.proofs.forms.write_four.Tie as tie
 
@@ -18,7 +18,7 @@ store-requires c κs = search rules
 returns : tie.Need-returns
 returns c =
     let a = c.before.before.before.before.before.args in
-    rw c.before.check.given.1 (refused _ (frontBytes a.front ++ a.part.now) a.out.now)
+    rw c.before.check.given.1 (refused _ (front_bytes a.front ++ a.part.now) a.out.now)
 
 same_length : tie.Need-same-length
 same_length c = search rules

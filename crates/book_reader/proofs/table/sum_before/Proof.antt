@@ -3,13 +3,13 @@ use mathlib.Core.Path.{◌≡◌, ap}
 use Prim.Native.Nat.{◌+◌, ◌*◌, ◌-◌, ◌≤◌}
 use native.Mathlib.Omega.{arith}
 use lib.ListN.{get_or}
-use Rattle.book.specs.Table.{everySecond, sum_of}
-use Rattle.book.specs.Lemmas.Pairs.{second-next}
+use Rattle.book.specs.Table.{every_second, sum_of}
+use Rattle.book.specs.Lemmas.Pairs.{second_next}
 use Rattle.book_reader.proofs.table.sum_before.Statement.{statement}
 use Rattle.book_reader.proofs.table.sum_before.Tie as tie
 
 abbrev invariant-loop : tie.invariant-loop
-invariant-loop bytes k i₀ sum₀ i sum = (i ≤ k) × (sum ≤ 255 * i) × (sum + sum_of (everySecond (k - i) (2 + 2 * i) bytes) ≡ sum_of (everySecond k 2 bytes))
+invariant-loop bytes k i₀ sum₀ i sum = (i ≤ k) × (sum ≤ 255 * i) × (sum + sum_of (every_second (k - i) (2 + 2 * i) bytes) ≡ sum_of (every_second k 2 bytes))
 
 abbrev decreases-loop : tie.decreases-loop
 decreases-loop bytes k i₀ sum₀ i sum = k - i
@@ -18,7 +18,7 @@ loop-holds : tie.Need-loop-init invariant-loop decreases-loop
 loop-holds c =
     let a = c.args in
     let e : a.k - 0 ≡ a.k = omega arith in
-    let f : 0 + sum_of (everySecond a.k 2 a.bytes.now) ≡ sum_of (everySecond a.k 2 a.bytes.now) = omega arith in
+    let f : 0 + sum_of (every_second a.k 2 a.bytes.now) ≡ sum_of (every_second a.k 2 a.bytes.now) = omega arith in
     rw e (omega arith, omega arith, f)
 
 mul-sum : tie.Need-overflow-mul-sum invariant-loop decreases-loop
@@ -49,7 +49,7 @@ loop-again c =
     let a = l.before.args in
     let k = l.loop.i in
     let x = get_or a.bytes.now (2 + 2 * k) 0 in
-    let e = ap sum_of (second-next a.k k 2 a.bytes.now i.loop-test.true) in
+    let e = ap sum_of (second_next a.k k 2 a.bytes.now i.loop-test.true) in
     let b = c.shared-slice-known.given (2 + 2 * k) in
     (omega arith, omega (arith, b), omega (arith, e, l.loop.invariant.2))
 

@@ -5,8 +5,8 @@ use Prim.Native.Nat.{ℕ, ◌+◌, ◌*◌, ◌-◌, ◌≤◌, ◌<◌}
 use native.Mathlib.Omega.{arith}
 use lib.ListN.{get_or}
 use borrow.Author.Rules.{rules}
-use Rattle.book.specs.Table.{everySecond, table_of}
-use Rattle.book.specs.Lemmas.Pairs.{second-next}
+use Rattle.book.specs.Table.{every_second, table_of}
+use Rattle.book.specs.Lemmas.Pairs.{second_next}
 use Rattle.book.specs.Lemmas.Running.{Running, begins, goes, breaks, done}
 use Rattle.book.specs.declared.table.Table.{Table}
 use Rattle.book.specs.declared.table.Table.TheVariants.{Total}
@@ -15,20 +15,20 @@ use Rattle.book_reader.proofs.table.table_in.Tie as tie
 
 abbrev invariant-loop : tie.invariant-loop
 invariant-loop bytes n k₀ least₀ total₀ k least total = (k ≤ n)
-    × Running (table_of 0 0 (everySecond n 1 bytes) (everySecond n 2 bytes)) k least total (everySecond (n - k) (1 + 2 * k) bytes)
-    (everySecond (n - k) (2 + 2 * k) bytes)
+    × Running (table_of 0 0 (every_second n 1 bytes) (every_second n 2 bytes)) k least total (every_second (n - k) (1 + 2 * k) bytes)
+    (every_second (n - k) (2 + 2 * k) bytes)
 
 abbrev decreases-loop : tie.decreases-loop
 decreases-loop bytes n k₀ least₀ total₀ k least total = n - k
 
 -- the pairs of bytes, n in all
 module _ {whole : Table} {k least total : ℕ} (n : ℕ) (s : List ℕ) where
-  next-in : k < n → Running whole k least total (everySecond (n - k) (1 + 2 * k) s) (everySecond (n - k) (2 + 2 * k) s)
-      → Running whole k least total (get_or s (1 + 2 * k) 0 ∷ everySecond (n - (k + 1)) (1 + 2 * (k + 1)) s)
-      (get_or s (2 + 2 * k) 0 ∷ everySecond (n - (k + 1)) (2 + 2 * (k + 1)) s)
-  next-in h r = rw (second-next n k 1 s h, second-next n k 2 s h) at r
+  next_in : k < n → Running whole k least total (every_second (n - k) (1 + 2 * k) s) (every_second (n - k) (2 + 2 * k) s)
+      → Running whole k least total (get_or s (1 + 2 * k) 0 ∷ every_second (n - (k + 1)) (1 + 2 * (k + 1)) s)
+      (get_or s (2 + 2 * k) 0 ∷ every_second (n - (k + 1)) (2 + 2 * (k + 1)) s)
+  next_in h r = rw (second_next n k 1 s h, second_next n k 2 s h) at r
 
-  none_in : n ≤ k → Running whole k least total (everySecond (n - k) (1 + 2 * k) s) (everySecond (n - k) (2 + 2 * k) s)
+  none_in : n ≤ k → Running whole k least total (every_second (n - k) (1 + 2 * k) s) (every_second (n - k) (2 + 2 * k) s)
       → Total total ≡ whole
   none_in h r = let e : n - k ≡ 0 = omega arith in done (rw e at r)
 
@@ -39,23 +39,23 @@ here :
     let s = l.before.before.args.bytes.now in
     let n = l.before.before.args.n in
     let k = l.loop.k in
-    Running (table_of 0 0 (everySecond n 1 s) (everySecond n 2 s)) k l.loop.least l.loop.total
-    (get_or s (1 + 2 * k) 0 ∷ everySecond (n - (k + 1)) (1 + 2 * (k + 1)) s)
-    (get_or s (2 + 2 * k) 0 ∷ everySecond (n - (k + 1)) (2 + 2 * (k + 1)) s)
+    Running (table_of 0 0 (every_second n 1 s) (every_second n 2 s)) k l.loop.least l.loop.total
+    (get_or s (1 + 2 * k) 0 ∷ every_second (n - (k + 1)) (1 + 2 * (k + 1)) s)
+    (get_or s (2 + 2 * k) 0 ∷ every_second (n - (k + 1)) (2 + 2 * (k + 1)) s)
 here c =
     let i = c.before.before.before in
     let a = i.before.before.before.args in
-    next-in a.n a.bytes.now i.loop-test.true i.before.loop.invariant.1
+    next_in a.n a.bytes.now i.loop-test.true i.before.loop.invariant.1
 
 -- it is good: the invariant holds again, and has the bounds for what is added
 loop-again : tie.Need-loop-preserved invariant-loop decreases-loop
-loop-again c = (omega arith, goes (here c.before) c.before.good-pair.ensures c.if1.false)
+loop-again c = (omega arith, goes (here c.before) c.before.good_pair_lem.ensures c.if1.false)
 
 loop-holds : tie.Need-loop-init invariant-loop decreases-loop
 loop-holds c =
     let a = c.before.args in
     let e : a.n - 0 ≡ a.n = omega arith in
-    rw e (omega arith, begins (everySecond a.n 1 a.bytes.now) (everySecond a.n 2 a.bytes.now))
+    rw e (omega arith, begins (every_second a.n 1 a.bytes.now) (every_second a.n 2 a.bytes.now))
 
 mul-slot : tie.Need-overflow-mul-slot invariant-loop decreases-loop
 mul-slot c = omega arith
@@ -79,7 +79,7 @@ good-pair-requires : tie.Need-good-pair-requires invariant-loop decreases-loop
 good-pair-requires c κs = search rules
 
 returns : tie.Need-returns invariant-loop decreases-loop
-returns c = breaks (here c.before) c.before.good-pair.ensures c.if1.true
+returns c = breaks (here c.before) c.before.good_pair_lem.ensures c.if1.true
 
 add-least : tie.Need-overflow-add-least invariant-loop decreases-loop
 add-least c = omega (arith, (loop-again c).1.low)

@@ -5,26 +5,26 @@ use Prim.Native.Nat.{ℕ, ◌+◌, ◌-◌, ◌*◌, ◌≤◌}
 use native.Mathlib.Omega.{arith}
 use lib.ListN.{get_or, take}
 use borrow.Author.Tests.{lt-ltb, le-ltb}
-use Rattle.book.specs.Table.{everySecond, sum_of}
-use Rattle.book.specs.Reading.{counted, slots_of, lengthsOf}
+use Rattle.book.specs.Table.{every_second, sum_of}
+use Rattle.book.specs.Reading.{counted, slots_of, lengths_of}
 use Rattle.book.specs.Template.{entry_at, listed_of}
-use Rattle.book.specs.Lemmas.Pairs.{second_at, second-take}
+use Rattle.book.specs.Lemmas.Pairs.{second_at, second_take}
 use Rattle.book.specs.declared.answers.Template.TheVariants.{Is}
 use borrow.Author.Rules.{rules}
 use Rattle.book_reader.proofs.templates.listed.Statement.{statement}
 use Rattle.book_reader.proofs.templates.listed.Tie as tie
 
 -- template k by the bytes of the whole
-entry-at : (s : List ℕ) (k : ℕ) → 1 ≤ k → k ≤ counted s
-    → entry_at s (k - 1) ≡ Is (get_or s (2 * k - 1) 0) (1 + 2 * counted s + sum_of (everySecond (k - 1) 2 s)) (get_or s (2 * k) 0)
+entry_at_lem : (s : List ℕ) (k : ℕ) → 1 ≤ k → k ≤ counted s
+    → entry_at s (k - 1) ≡ Is (get_or s (2 * k - 1) 0) (1 + 2 * counted s + sum_of (every_second (k - 1) 2 s)) (get_or s (2 * k) 0)
 unfolding entry_at
-entry-at s k some most =
+entry_at_lem s k some most =
     let m : ℕ = counted s in
     let at : 1 + 2 * (k - 1) ≡ 2 * k - 1 = omega arith in
     let next : 2 + 2 * (k - 1) ≡ 2 * k = omega arith in
     let slot : get_or (slots_of s) (k - 1) 0 ≡ get_or s (2 * k - 1) 0 = second_at m (k - 1) 1 s (omega arith) ∙ ap (λ (j : ℕ). get_or s j 0) at in
-    let len : get_or (lengthsOf s) (k - 1) 0 ≡ get_or s (2 * k) 0 = second_at m (k - 1) 2 s (omega arith) ∙ ap (λ (j : ℕ). get_or s j 0) next in
-    let before : take (k - 1) (lengthsOf s) ≡ everySecond (k - 1) 2 s = second-take m (k - 1) 2 s (omega arith) in
+    let len : get_or (lengths_of s) (k - 1) 0 ≡ get_or s (2 * k) 0 = second_at m (k - 1) 2 s (omega arith) ∙ ap (λ (j : ℕ). get_or s j 0) next in
+    let before : take (k - 1) (lengths_of s) ≡ every_second (k - 1) 2 s = second_take m (k - 1) 2 s (omega arith) in
     simp (slot, len, before)
 
 returns : tie.Need-returns
@@ -115,7 +115,7 @@ returns-6 c =
       le-ltb _ _ e.before.if4.false,
       le-ltb _ _ e.if5.false,
       r.sum-before.ensures.0,
-      entry-at (entry e).args.bytes.now (entry e).args.k a.if2.false e.before.before.if3.false,
+      entry_at_lem (entry e).args.bytes.now (entry e).args.k a.if2.false e.before.before.if3.false,
     )
 
 pub listed-spec : {M : Type 1} → statement M

@@ -1,7 +1,7 @@
 -- `book_reader::templates::template` meets its contract: of a book that is accepted, the table has every template.
 use mathlib.Core.Path.{sym, ◌∙◌}
-use Rattle.book.specs.Template.{templateOf}
-use Rattle.book.specs.Laws.{listed-is}
+use Rattle.book.specs.Template.{template_of}
+use Rattle.book.specs.Laws.{listed_is}
 use borrow.Author.Rules.{rules}
 use Rattle.book_reader.proofs.templates.template.Statement.{statement}
 use Rattle.book_reader.proofs.templates.template.Tie as tie
@@ -19,7 +19,7 @@ listed-requires : tie.Need-listed-requires
 listed-requires c κs = search rules
 
 returns : tie.Need-returns
-unfolding templateOf
+unfolding template_of
 returns c = simp (sym c.before.before.before.read.ensures ∙ c.before.reading.given.1)
 
 returns-2 : tie.Need-returns-2
@@ -27,7 +27,7 @@ returns-2 c =
     let t = c.before in
     let r = t.before.before in
     let a = r.before.before.args in
-    c.listed.ensures ∙ listed-is a.bytes.now (sym r.read.ensures ∙ t.enum_told.given.1) a.k
+    c.listed.ensures ∙ listed_is a.bytes.now (sym r.read.ensures ∙ t.enum_told.given.1) a.k
 
 pub template-spec : {M : Type 1} → statement M
 template-spec = tie.close (tie.spec read-requires enum-known-reading enum_told listed-requires returns returns-2)

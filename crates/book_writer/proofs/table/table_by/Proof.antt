@@ -22,12 +22,12 @@ decreases-loop slots lengths k₀ least₀ total₀ k least total = length slots
 
 -- the pairs of slots and lengths
 module _ {whole : Table} {k least total : ℕ} (slots lengths : List ℕ) (same : length lengths ≡ length slots) where
-  next-by : k < length slots → Running whole k least total (drop k slots) (drop k lengths)
+  next_by_lem : k < length slots → Running whole k least total (drop k slots) (drop k lengths)
       → Running whole k least total (get_or slots k 0 ∷ drop (k + 1) slots) (get_or lengths k 0 ∷ drop (k + 1) lengths)
-  next-by h r = let g : k < length lengths = omega arith in rw (add-one k) (rw (drop-cons slots k 0 h, drop-cons lengths k 0 g) at r)
+  next_by_lem h r = let g : k < length lengths = omega arith in rw (add-one k) (rw (drop-cons slots k 0 h, drop-cons lengths k 0 g) at r)
 
-  none-by : k ≡ length slots → Running whole k least total (drop k slots) (drop k lengths) → Total total ≡ whole
-  none-by h r = done (rw (h, drop-length slots) at r)
+  none_by : k ≡ length slots → Running whole k least total (drop k slots) (drop k lengths) → Total total ≡ whole
+  none_by h r = done (rw (h, drop-length slots) at r)
 
 -- the pair that is judged
 here :
@@ -40,11 +40,11 @@ here :
 here c =
     let i = c.before.before.before in
     let b = i.before.before.before.before in
-    next-by b.args.slots.now b.args.lengths.now b.requires.1 i.loop-test.true i.before.loop.invariant.1
+    next_by_lem b.args.slots.now b.args.lengths.now b.requires.1 i.loop-test.true i.before.loop.invariant.1
 
 -- it is good: the invariant holds again, and has the bounds for what is added
 loop-again : tie.Need-loop-preserved invariant-loop decreases-loop
-loop-again c = (omega arith, goes (here c.before) c.before.good-pair.ensures c.if1.false)
+loop-again c = (omega arith, goes (here c.before) c.before.good_pair_lem.ensures c.if1.false)
 
 loop-holds : tie.Need-loop-init invariant-loop decreases-loop
 loop-holds c = (omega arith, begins _ _)
@@ -59,7 +59,7 @@ good-pair-requires : tie.Need-good-pair-requires invariant-loop decreases-loop
 good-pair-requires c κs = search rules
 
 returns : tie.Need-returns invariant-loop decreases-loop
-returns c = breaks (here c.before) c.before.good-pair.ensures c.if1.true
+returns c = breaks (here c.before) c.before.good_pair_lem.ensures c.if1.true
 
 add-least : tie.Need-overflow-add-least invariant-loop decreases-loop
 add-least c = omega (arith, (loop-again c).1.low)
@@ -80,7 +80,7 @@ returns-2 : tie.Need-returns-2 invariant-loop decreases-loop
 returns-2 c =
     let l = c.before in
     let b = l.before.before.before in
-    none-by b.args.slots.now b.args.lengths.now b.requires.1 (omega arith) l.loop.invariant.1
+    none_by b.args.slots.now b.args.lengths.now b.requires.1 (omega arith) l.loop.invariant.1
 
 pub table-by-spec : {M : Type 1} → statement M
 table-by-spec =

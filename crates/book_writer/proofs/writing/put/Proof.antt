@@ -3,7 +3,7 @@ use mathlib.Core.List.{◌∷◌}
 use lib.ListN.{length}
 use borrow.Author.Rules.{rules}
 use Rattle.octets.specs.Front.{first_fits, both_stored}
-use Rattle.book.specs.Writing.{pairsOf}
+use Rattle.book.specs.Writing.{pairs_of}
 use Rattle.book_writer.proofs.writing.put.Statement.{statement}
 use Rattle.book_writer.proofs.writing.put.Tie as tie
 
@@ -11,7 +11,7 @@ put-table-requires : tie.Need-put-table-requires
 put-table-requires c κs =
     let b = c.before.before.before.before.before in
     let slots = b.args.slots.now in
-    (b.requires.0, b.requires.1, first_fits (length slots ∷ pairsOf slots b.args.lengths.now) b.args.bodies.now b.requires.2)
+    (b.requires.0, b.requires.1, first_fits (length slots ∷ pairs_of slots b.args.lengths.now) b.args.bodies.now b.requires.2)
 
 store-behind-requires : tie.Need-store-behind-requires
 store-behind-requires c κs = tt

@@ -7,30 +7,30 @@ use native.Mathlib.Numerals.{add-one}
 use lib.ListN.{length, get_or, drop, set, length-set}
 use lib.Seq.{sets, drop-cons, drop-length}
 use Rattle.octets.specs.Front.{stores}
-use Rattle.book.specs.Writing.{pairsOf}
-use Rattle.book.specs.Lemmas.Parts.{pairs-long}
+use Rattle.book.specs.Writing.{pairs_of}
+use Rattle.book.specs.Lemmas.Parts.{pairs_long}
 use Rattle.book_writer.proofs.writing.put_table.Statement.{statement}
 use Rattle.book_writer.proofs.writing.put_table.Tie as tie
 
 abbrev invariant-loop : tie.invariant-loop
 invariant-loop slots lengths out₀ k₀ out k =
-    (k ≤ length slots) × (length out ≡ length out₀) × (sets out (1 + 2 * k) (pairsOf (drop k slots) (drop k lengths)) ≡ sets out₀ 1 (pairsOf slots lengths))
+    (k ≤ length slots) × (length out ≡ length out₀) × (sets out (1 + 2 * k) (pairs_of (drop k slots) (drop k lengths)) ≡ sets out₀ 1 (pairs_of slots lengths))
 
 abbrev decreases-loop : tie.decreases-loop
 decreases-loop slots lengths out₀ k₀ out k = length slots - k
 
 -- one pair more
 module _ (slots lengths out : List ℕ) (k : ℕ) (same : length lengths ≡ length slots) (h : k < length slots) where
-  opened : pairsOf (drop k slots) (drop k lengths) ≡ get_or slots k 0 ∷ get_or lengths k 0 ∷ pairsOf (drop (k + 1) slots) (drop (k + 1) lengths)
+  opened : pairs_of (drop k slots) (drop k lengths) ≡ get_or slots k 0 ∷ get_or lengths k 0 ∷ pairs_of (drop (k + 1) slots) (drop (k + 1) lengths)
   opened = let g : k < length lengths = omega arith in rw (add-one k, drop-cons slots k 0 h, drop-cons lengths k 0 g)
 
   goes :
-      sets (set (set out (1 + 2 * k) (get_or slots k 0)) (2 + 2 * k) (get_or lengths k 0)) (1 + 2 * (k + 1)) (pairsOf (drop (k + 1) slots) (drop (k + 1) lengths))
-      ≡ sets out (1 + 2 * k) (pairsOf (drop k slots) (drop k lengths))
+      sets (set (set out (1 + 2 * k) (get_or slots k 0)) (2 + 2 * k) (get_or lengths k 0)) (1 + 2 * (k + 1)) (pairs_of (drop (k + 1) slots) (drop (k + 1) lengths))
+      ≡ sets out (1 + 2 * k) (pairs_of (drop k slots) (drop k lengths))
   goes =
       let a : 2 + 2 * k ≡ suc (1 + 2 * k) = omega arith in
       let b : 1 + 2 * (k + 1) ≡ suc (suc (1 + 2 * k)) = omega arith in
-      ap₂ (λ (i j : ℕ). sets (set (set out (1 + 2 * k) (get_or slots k 0)) i (get_or lengths k 0)) j (pairsOf (drop (k + 1) slots) (drop (k + 1) lengths))) a b
+      ap₂ (λ (i j : ℕ). sets (set (set out (1 + 2 * k) (get_or slots k 0)) i (get_or lengths k 0)) j (pairs_of (drop (k + 1) slots) (drop (k + 1) lengths))) a b
       ∙ ap (sets out (1 + 2 * k)) (sym opened)
 
 -- the table fits
@@ -41,7 +41,7 @@ room :
 room c =
     let b = c.before in
     let same = length-set b.args.out.now 0 (length b.args.slots.now) in
-    let long = pairs-long b.args.slots.now b.args.lengths.now b.requires.1 in
+    let long = pairs_long b.args.slots.now b.args.lengths.now b.requires.1 in
     (omega arith, omega arith)
 
 cast-out : tie.Need-overflow-cast-out invariant-loop decreases-loop
@@ -108,10 +108,10 @@ returns c =
     let b = l.before in
     let slots : List ℕ = b.args.slots.now in
     let lengths : List ℕ = b.args.lengths.now in
-    let long = pairs-long slots lengths b.requires.1 in
+    let long = pairs_long slots lengths b.requires.1 in
     let e : l.loop.k ≡ length slots = omega arith in
-    let all = stores (length slots ∷ pairsOf slots lengths) b.args.out.now b.requires.2 in
-    let done : l.loop.out ≡ sets b.args.out.now 0 (length slots ∷ pairsOf slots lengths) = rw (e, drop-length slots) at l.loop.invariant.2 in
+    let all = stores (length slots ∷ pairs_of slots lengths) b.args.out.now b.requires.2 in
+    let done : l.loop.out ≡ sets b.args.out.now 0 (length slots ∷ pairs_of slots lengths) = rw (e, drop-length slots) at l.loop.invariant.2 in
     record { counted = omega arith; bytes = done ∙ all.bytes }
 
 pub put-table-spec : {M : Type 1} → statement M

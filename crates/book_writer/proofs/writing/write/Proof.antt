@@ -4,31 +4,31 @@ use native.Mathlib.Omega.{arith}
 use borrow.Author.Rules.{rules}
 use borrow.Author.Tests.{lt-ltb, le-ltb, eq-eqb, ne_eqb}
 use Rattle.octets.specs.Front.{refused}
-use Rattle.book.specs.Writing.{bookBytes, verdictOf}
+use Rattle.book.specs.Writing.{book_bytes, verdict_of}
 use Rattle.book_writer.proofs.writing.write.Statement.{statement}
 use Rattle.book_writer.proofs.writing.write.Tie as tie
 
 returns : tie.Need-returns
-unfolding verdictOf
+unfolding verdict_of
 returns c =
     let a = c.before.before.before.before.before.args in
-    simp (lt-ltb _ _ c.if1.true) (refused 32 (bookBytes a.slots.now a.lengths.now a.bodies.now) a.out.now)
+    simp (lt-ltb _ _ c.if1.true) (refused 32 (book_bytes a.slots.now a.lengths.now a.bodies.now) a.out.now)
 
 returns-2 : tie.Need-returns-2
-unfolding verdictOf
+unfolding verdict_of
 returns-2 c =
     let e = c.before in
     let a = e.before.before.before.before.before.args in
     simp (le-ltb _ _ e.if1.false, lt-ltb _ _ c.if2.true)
-    (refused 32 (bookBytes a.slots.now a.lengths.now a.bodies.now) a.out.now)
+    (refused 32 (book_bytes a.slots.now a.lengths.now a.bodies.now) a.out.now)
 
 returns-3 : tie.Need-returns-3
-unfolding verdictOf
+unfolding verdict_of
 returns-3 c =
     let e = c.before in
     let a = e.before.before.before.before.before.before.args in
     simp (le-ltb _ _ e.before.if1.false, le-ltb _ _ e.if2.false, ne_eqb _ _ c.if3.true)
-    (refused 32 (bookBytes a.slots.now a.lengths.now a.bodies.now) a.out.now)
+    (refused 32 (book_bytes a.slots.now a.lengths.now a.bodies.now) a.out.now)
 
 table-by-requires : tie.Need-table-by-requires
 table-by-requires c κs = (omega arith, omega arith)
@@ -40,7 +40,7 @@ same_length : tie.Need-same-length
 same_length c = search rules
 
 returns-4 : tie.Need-returns-4
-unfolding verdictOf
+unfolding verdict_of
 returns-4 c =
     let w = c.before.before in
     let t = w.before.before in

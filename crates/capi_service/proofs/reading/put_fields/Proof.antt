@@ -3,7 +3,7 @@ use mathlib.Core.Path.{ap, ap₂, ◌∙◌}
 use mathlib.Core.List.{List, ◌∷◌}
 use Prim.Native.Nat.{ℕ}
 use lib.ListN.{get_or, drop}
-use Rattle.service_fields.specs.Service.{ownBytes}
+use Rattle.service_fields.specs.Service.{own_bytes}
 use borrow.Author.Rules.{rules}
 use Rattle.capi_service.proofs.reading.put_fields.Statement.{statement}
 use Rattle.capi_service.proofs.reading.put_fields.Tie as tie
@@ -28,7 +28,7 @@ returns c =
     let o = w.before in
     let a = o.before.args in
     let h = a.header in
-    ap₂ (λ (x y : ℕ). joined x y h.da h.sa h.fc a.start a.len (ownBytes o.own_of_lem.result)) w.way-number.ensures k.format-number.ensures
+    ap₂ (λ (x y : ℕ). joined x y h.da h.sa h.fc a.start a.len (own_bytes o.own_of_lem.result)) w.way-number.ensures k.format-number.ensures
     ∙ ap (joined _ _ h.da h.sa h.fc a.start a.len) o.own_of_lem.ensures
 
 pub put-fields-spec : {M : Type 1} → statement M

@@ -6,8 +6,8 @@ use native.Mathlib.Omega.{arith}
 use borrow.Author.Tests.{lt-ltb, le-ltb}
 use Rattle.service.specs.Reading.{read_of}
 use Rattle.service.specs.declared.reading.Reading.{Reading}
-use Rattle.capi_service.specs.Service.{readIn, refusalOf, fieldsAfter}
-use Rattle.capi_service.specs.Laws.{read-ends}
+use Rattle.capi_service.specs.Service.{read_in, refusal_of, fields_after}
+use Rattle.capi_service.specs.Laws.{read_ends}
 use borrow.Author.Rules.{rules}
 use Rattle.capi_service.proofs.reading.rabtunex_read_service.Statement.{statement}
 use Rattle.capi_service.proofs.reading.rabtunex_read_service.Tie as tie
@@ -15,7 +15,7 @@ use Rattle.capi_service.proofs.reading.rabtunex_read_service.Tie as tie
 -- what the version lets be read
 known : (c : tie.After-read) {r : Reading} → c.read.result ≡ r →
     let a = c.before.before.before.before.args in
-    readIn a.bytes.now a.version ≡ r
+    read_in a.bytes.now a.version ≡ r
 known c e =
     let a = c.before.before.before.before.args in
     simp (le-ltb _ _ c.before.before.if1.false) (ap (read_of a.bytes.now) (sym c.before.Mode-of.ensures) ∙ sym c.read.ensures ∙ e)
@@ -23,11 +23,11 @@ known c e =
 -- the answer and the fields, by what is read
 answered : (c : tie.After-read) {after : List ℕ} (r : Reading) → c.read.result ≡ r →
     let a = c.before.before.before.before.args in
-    after ≡ fieldsAfter r a.fields.now
-    → (refusalOf r ≡ refusalOf (readIn a.bytes.now a.version)) × (after ≡ fieldsAfter (readIn a.bytes.now a.version) a.fields.now)
+    after ≡ fields_after r a.fields.now
+    → (refusal_of r ≡ refusal_of (read_in a.bytes.now a.version)) × (after ≡ fields_after (read_in a.bytes.now a.version) a.fields.now)
 answered c r e f =
     let a = c.before.before.before.before.args in
-    (sym (ap refusalOf (known c e)), f ∙ sym (ap (λ (x : Reading). fieldsAfter x a.fields.now) (known c e)))
+    (sym (ap refusal_of (known c e)), f ∙ sym (ap (λ (x : Reading). fields_after x a.fields.now) (known c e)))
 
 -- start and length of the part are bytes
 inside : (c : tie.After-known-told) →
@@ -37,7 +37,7 @@ inside c =
     let t = c.before in
     let r = t.before.before in
     let a = r.before.before.before.before.args in
-    rw (sym r.read.ensures ∙ t.reading.given.1) at (read-ends a.bytes.now r.before.Mode-of.result)
+    rw (sym r.read.ensures ∙ t.reading.given.1) at (read_ends a.bytes.now r.before.Mode-of.result)
 
 returns : tie.Need-returns
 returns c = simp (lt-ltb _ _ c.if1.true) (refl, refl)

@@ -4,9 +4,9 @@ use mathlib.Core.Bool.{Bool}
 use Prim.Native.Nat.{◌+◌}
 use lib.ListN.{get_or}
 use Rattle.octets.specs.Choice.{pick}
-use Rattle.fdl.specs.Around.{goodFields}
+use Rattle.fdl.specs.Around.{good_fields}
 use Rattle.fdl.specs.declared.telegram.Header.{Header}
-use Rattle.capi_service.specs.Service.{lackingNumber}
+use Rattle.capi_service.specs.Service.{lacking_number}
 use borrow.Author.Rules.{rules}
 use Rattle.capi_service.proofs.writing.lacking_number.Statement.{statement}
 use Rattle.capi_service.proofs.writing.lacking_number.Tie as tie
@@ -14,12 +14,12 @@ use Rattle.capi_service.proofs.writing.lacking_number.Tie as tie
 -- the answer, by what the test says
 answers : (c : tie.After-writable-with) {b : Bool} → c.writable-with.result ≡ b →
     let a = c.before.before.before.before.before.args in
-    pick b a.number 12 ≡ lackingNumber a.format a.service a.fields.now (a.fixed + a.len) a.number
-unfolding lackingNumber
+    pick b a.number 12 ≡ lacking_number a.format a.service a.fields.now (a.fixed + a.len) a.number
+unfolding lacking_number
 answers c e =
     let a = c.before.before.before.before.before.args in
     ap (λ (x : Bool). pick x a.number 12)
-    (sym e ∙ c.writable-with.ensures ∙ ap (λ (h : Header). goodFields a.format h (a.fixed + a.len)) c.before.header_of.ensures)
+    (sym e ∙ c.writable-with.ensures ∙ ap (λ (h : Header). good_fields a.format h (a.fixed + a.len)) c.before.header_of.ensures)
 
 element-copy-out-header-of : tie.Need-element-copy-out-header-of
 element-copy-out-header-of c = search rules

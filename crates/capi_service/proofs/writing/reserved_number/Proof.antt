@@ -2,18 +2,18 @@
 use mathlib.Core.Path.{◌≡◌, sym, ap, ◌∙◌}
 use borrow.Author.Tests.{not-true, not-false}
 use Rattle.octets.specs.Choice.{pick}
-use Rattle.access.specs.Route.{serviceRoute}
+use Rattle.access.specs.Route.{service_route}
 use Rattle.access.specs.declared.route.Route.{Route}
 use Rattle.access.specs.declared.table.Service.TheVariants.{Dpv1}
-use Rattle.capi_service.specs.Service.{reservedBy}
+use Rattle.capi_service.specs.Service.{reserved_by}
 use borrow.Author.Rules.{rules}
 use Rattle.capi_service.proofs.writing.reserved_number.Statement.{statement}
 use Rattle.capi_service.proofs.writing.reserved_number.Tie as tie
 
 routed : (c : tie.After-route-for) {r : Route} → c.route-for.result ≡ r →
     let a = c.before.before.args in
-    reservedBy r ≡ pick a.right (reservedBy (serviceRoute Dpv1 a.fc)) 10
-routed c e = simp (not-false c.before.before.args.right c.before.if1.false) (ap reservedBy (sym e ∙ c.route-for.ensures))
+    reserved_by r ≡ pick a.right (reserved_by (service_route Dpv1 a.fc)) 10
+routed c e = simp (not-false c.before.before.args.right c.before.if1.false) (ap reserved_by (sym e ∙ c.route-for.ensures))
 
 returns : tie.Need-returns
 returns c = simp (not-true c.before.args.right c.if1.true)

@@ -4,17 +4,17 @@ use mathlib.Core.List.{List, []}
 use Prim.Native.Nat.{ℕ, ◌+◌}
 use native.Mathlib.Nat.{zero-add}
 use lib.ListN.{length}
-use Rattle.octets.specs.Front.{fault, answerBy, heldBy, refused}
+use Rattle.octets.specs.Front.{fault, answer_by, held_by, refused}
 use Rattle.octets.specs.declared.Written.TheVariants.{Refused}
 use Rattle.access.specs.declared.table.Service.{Service}
 use Rattle.access.specs.declared.table.Service.TheVariants.{Dpv1}
-use Rattle.capi_service.specs.Service.{lackingNumber}
+use Rattle.capi_service.specs.Service.{lacking_number}
 use borrow.Author.Rules.{rules}
 use Rattle.capi_service.proofs.writing.write_named.Statement.{statement}
 use Rattle.capi_service.proofs.writing.write_named.Tie as tie
 
 -- a refusal with the number of the definition
-with_number : {n k : ℕ} → n ≡ k → (t out : List ℕ) → (Refused n ≡ answerBy (fault k) t (length out)) × (out ≡ heldBy (fault k) t out)
+with_number : {n k : ℕ} → n ≡ k → (t out : List ℕ) → (Refused n ≡ answer_by (fault k) t (length out)) × (out ≡ held_by (fault k) t out)
 with_number {n} e t out = rw (← e) (refused n t out)
 
 enum-known-named : tie.Need-enum-known-named
@@ -79,7 +79,7 @@ returns-2 c =
     rw (e.before.before.named.given.1, e.if1.false)
     (with_number
     (c.lacking-number.ensures
-    ∙ ap₂ (λ (s : Service) (n : ℕ). lackingNumber a.format s a.fields.now (n + length a.part.now) 10) f.before.service-of.ensures f.fixed-length.ensures)
+    ∙ ap₂ (λ (s : Service) (n : ℕ). lacking_number a.format s a.fields.now (n + length a.part.now) 10) f.before.service-of.ensures f.fixed-length.ensures)
     _ _)
 
 returns-3 : tie.Need-returns-3
@@ -90,7 +90,7 @@ returns-3 c =
     rw t.enum_told.given.1
     (with_number
     (c.lacking-number2.ensures
-    ∙ ap (λ (n : ℕ). lackingNumber a.format Dpv1 a.fields.now (4 + length a.part.now) n) r.reserved-number.ensures)
+    ∙ ap (λ (n : ℕ). lacking_number a.format Dpv1 a.fields.now (4 + length a.part.now) n) r.reserved-number.ensures)
     [] _)
 
 returns-4 : tie.Need-returns-4
@@ -100,7 +100,7 @@ returns-4 c =
     rw t.enum-told2.given.1
     (with_number
     (c.lacking-number3.ensures
-    ∙ ap (λ (n : ℕ). lackingNumber a.format Dpv1 a.fields.now n 10) (zero-add (length a.part.now)))
+    ∙ ap (λ (n : ℕ). lacking_number a.format Dpv1 a.fields.now n 10) (zero-add (length a.part.now)))
     [] _)
 
 returns-5 : tie.Need-returns-5

@@ -6,7 +6,7 @@ use native.Mathlib.Omega.{arith}
 use lib.ListN.{length, drop}
 use borrow.Author.Rules.{rules}
 use Rattle.configuration.specs.Walk.{walk_of}
-use Rattle.configuration.specs.Reading.{input_of, outputOf, totalsOf, offsetsBy}
+use Rattle.configuration.specs.Reading.{input_of, output_of, totals_of, offsets_by}
 use Rattle.configuration.specs.Contents.{Stands}
 use Rattle.configuration.specs.Lemmas.Steps.{stands, ends, breaks}
 use Rattle.configuration_reader.proofs.Running.{Running, begins, goes, done}
@@ -15,8 +15,8 @@ use Rattle.configuration_reader.proofs.gathering.gather.Tie as tie
 
 abbrev invariant-loop : tie.invariant-loop
 invariant-loop s inputs₀ outputs₀ at₀ n₀ i₀ o₀ inputs outputs at n i o =
-    (at ≤ length s) × (n ≤ at) × Running input_of s inputs₀ inputs at n i × Running outputOf s outputs₀ outputs at n o
-    × (totalsOf n i o (walk_of (drop at s) 0) ≡ totalsOf 0 0 0 (walk_of s 0))
+    (at ≤ length s) × (n ≤ at) × Running input_of s inputs₀ inputs at n i × Running output_of s outputs₀ outputs at n o
+    × (totals_of n i o (walk_of (drop at s) 0) ≡ totals_of 0 0 0 (walk_of s 0))
 
 abbrev decreases-loop : tie.decreases-loop
 decreases-loop s inputs₀ outputs₀ at₀ n₀ i₀ o₀ inputs outputs at n i o = length s - at
@@ -76,7 +76,7 @@ loop-less : tie.Need-loop-smaller invariant-loop decreases-loop
 loop-less c = omega (arith, here (told (stored c.before)))
 
 loop-again : tie.Need-loop-preserved invariant-loop decreases-loop
-unfolding totalsOf
+unfolding totals_of
 loop-again c =
     let p = stored c.before in
     let k = told p in
@@ -86,7 +86,7 @@ loop-again c =
       omega arith,
       goes _ _ _ l.inv.2 h h.input p.before.before.before.before.put.ensures c.before.side-length.ensures,
       goes _ _ _ l.inv.3 h h.output p.put2.ensures c.side-length2.ensures,
-      rw (c.before.side-length.ensures, c.side-length2.ensures) (sym (ap (totalsOf l.n l.i l.o) h.walk) ∙ l.inv.4),
+      rw (c.before.side-length.ensures, c.side-length2.ensures) (sym (ap (totals_of l.n l.i l.o) h.walk) ∙ l.inv.4),
     )
 
 enum_told : tie.Need-enum-told invariant-loop decreases-loop
@@ -99,12 +99,12 @@ same-length-2 : tie.Need-same-length-2 invariant-loop decreases-loop
 same-length-2 c = omega arith
 
 returns : tie.Need-returns invariant-loop decreases-loop
-unfolding offsetsBy totalsOf
+unfolding offsets_by totals_of
 returns c =
     let l = c.before.before.before.loop in
     let e = (ends _ _ (sym c.before.before.next.ensures ∙ c.enum_told.given.1)).1 in (
-      sym (ap (totalsOf l.n l.i l.o) e) ∙ l.invariant.4,
-      (done _ _ _ l.invariant.2 (ap (offsetsBy input_of l.i) e), done _ _ _ l.invariant.3 (ap (offsetsBy outputOf l.o) e)),
+      sym (ap (totals_of l.n l.i l.o) e) ∙ l.invariant.4,
+      (done _ _ _ l.invariant.2 (ap (offsets_by input_of l.i) e), done _ _ _ l.invariant.3 (ap (offsets_by output_of l.o) e)),
     )
 
 enum-known-step-2 : tie.Need-enum-known-step-2 invariant-loop decreases-loop
@@ -117,12 +117,12 @@ same-length-4 : tie.Need-same-length-4 invariant-loop decreases-loop
 same-length-4 c = omega arith
 
 returns-2 : tie.Need-returns-2 invariant-loop decreases-loop
-unfolding offsetsBy totalsOf
+unfolding offsets_by totals_of
 returns-2 c =
     let l = c.before.before.before.before.loop in
     let e = breaks _ _ (sym c.before.before.before.next.ensures ∙ c.before.step2.given.1) l.invariant.0 in (
-      sym (ap (totalsOf l.n l.i l.o) e) ∙ l.invariant.4,
-      (done _ _ _ l.invariant.2 (ap (offsetsBy input_of l.i) e), done _ _ _ l.invariant.3 (ap (offsetsBy outputOf l.o) e)),
+      sym (ap (totals_of l.n l.i l.o) e) ∙ l.invariant.4,
+      (done _ _ _ l.invariant.2 (ap (offsets_by input_of l.i) e), done _ _ _ l.invariant.3 (ap (offsets_by output_of l.o) e)),
     )
 
 pub gather-spec : {M : Type 1} → statement M

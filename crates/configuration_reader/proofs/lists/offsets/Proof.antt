@@ -7,7 +7,7 @@ use borrow.Author.Rules.{rules}
 use borrow.Author.Tests.{lt-ltb, le-ltb}
 use Rattle.configuration.specs.Walk.{walk_of}
 use Rattle.octets.specs.Front.{stores}
-use Rattle.configuration.specs.Reading.{input_of, outputOf, inputOffsets, outputOffsets, read_of, offsetsBy, withRoom}
+use Rattle.configuration.specs.Reading.{input_of, output_of, input_offsets, output_offsets, read_of, offsets_by, with_room}
 use Rattle.configuration.specs.Lemmas.Accepted.{accepted, counted}
 use Rattle.configuration.specs.declared.fields.Module.{Module}
 use Rattle.configuration.specs.declared.reading.Reading.TheVariants.{Configuration}
@@ -23,7 +23,7 @@ read_is c = sym c.before.before.read.ensures ∙ c.reading.given.1
 
 -- as many offsets as modules
 as_many :
-    (c : tie.After-reading) (side : Module → ℕ) → length (offsetsBy side 0 (walk_of (entry c).args.bytes.now 0)) ≡ c.reading.given.0.0
+    (c : tie.After-reading) (side : Module → ℕ) → length (offsets_by side 0 (walk_of (entry c).args.bytes.now 0)) ≡ c.reading.given.0.0
 as_many c side =
     let s = (entry c).args.bytes.now in
     omega (arith, counted side 0 0 0 0 (walk_of s 0) (accepted s (read_is c)).totals)
@@ -34,8 +34,8 @@ room :
     let r = c.before.before.before in
     let g = r.reading.given.0 in
     let a = (entry r).args in
-    withRoom (length a.inputs.now) (length a.outputs.now) (read_of a.bytes.now) ≡ Configuration g.0 g.1.0 g.1.1.0
-unfolding withRoom
+    with_room (length a.inputs.now) (length a.outputs.now) (read_of a.bytes.now) ≡ Configuration g.0 g.1.0 g.1.1.0
+unfolding with_room
 room c = simp (read_is c.before.before.before, le-ltb _ _ c.before.if1.false, le-ltb _ _ c.if2.false)
 
 read-requires : tie.Need-read-requires
@@ -45,11 +45,11 @@ enum-known-reading : tie.Need-enum-known-reading
 enum-known-reading c = search rules
 
 returns : tie.Need-returns
-unfolding withRoom
+unfolding with_room
 returns c = simp (read_is c.before.before, lt-ltb _ _ c.if1.true) (refl, (refl, refl))
 
 returns-2 : tie.Need-returns-2
-unfolding withRoom
+unfolding with_room
 returns-2 c =
     simp (read_is c.before.before.before, le-ltb _ _ c.before.if1.false, lt-ltb _ _ c.if2.true) (refl, (refl, refl))
 
@@ -77,13 +77,13 @@ returns-3 c =
     rw (room e) (
       refl,
       (
-        g.0 ∙ (stores (inputOffsets a.bytes.now) a.inputs.now (omega (arith, as_many r input_of, e.before.if1.false))).bytes,
-        g.1 ∙ (stores (outputOffsets a.bytes.now) a.outputs.now (omega (arith, as_many r outputOf, e.if2.false))).bytes,
+        g.0 ∙ (stores (input_offsets a.bytes.now) a.inputs.now (omega (arith, as_many r input_of, e.before.if1.false))).bytes,
+        g.1 ∙ (stores (output_offsets a.bytes.now) a.outputs.now (omega (arith, as_many r output_of, e.if2.false))).bytes,
       ),
     )
 
 returns-4 : tie.Need-returns-4
-unfolding withRoom
+unfolding with_room
 returns-4 c =
     let r = c.before in
     simp (sym r.before.before.read.ensures ∙ r.reading2.given.1) (refl, (refl, refl))

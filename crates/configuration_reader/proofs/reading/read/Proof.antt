@@ -2,12 +2,12 @@
 use mathlib.Core.Path.{◌≡◌}
 use borrow.Author.Rules.{rules}
 use borrow.Author.Tests.{lt-ltb, le-ltb}
-use Rattle.configuration.specs.Reading.{withinLimit, read_of}
+use Rattle.configuration.specs.Reading.{within_limit, read_of}
 use Rattle.configuration_reader.proofs.reading.read.Statement.{statement}
 use Rattle.configuration_reader.proofs.reading.read.Tie as tie
 
 -- what a good length leaves
-sized : (c : tie.After-gather) → read_of c.before.before.before.before.before.before.args.bytes.now ≡ withinLimit c.gather.result
+sized : (c : tie.After-gather) → read_of c.before.before.before.before.before.before.args.bytes.now ≡ within_limit c.gather.result
 unfolding read_of
 sized c =
     let e = c.before.before.before in
@@ -34,13 +34,13 @@ enum-known-reading : tie.Need-enum-known-reading
 enum-known-reading c = search rules
 
 returns-3 : tie.Need-returns-3
-unfolding withinLimit
+unfolding within_limit
 returns-3 c =
     let r = c.before.before in
     simp (sized r.before.before.before.before, r.reading.given.1, lt-ltb _ _ c.if3.true)
 
 returns-4 : tie.Need-returns-4
-unfolding withinLimit
+unfolding within_limit
 returns-4 c =
     let r = c.before.before.before in
     simp (sized r.before.before.before.before, r.reading.given.1, le-ltb _ _ c.before.if3.false, lt-ltb _ _ c.if4.true)
@@ -49,13 +49,13 @@ enum-known-reading-2 : tie.Need-enum-known-reading-2
 enum-known-reading-2 c = search rules
 
 returns-5 : tie.Need-returns-5
-unfolding withinLimit
+unfolding within_limit
 returns-5 c =
     let r = c.before.before.before in
     simp (sized r.before.before.before.before, r.reading.given.1, le-ltb _ _ c.before.if3.false, le-ltb _ _ c.if4.false)
 
 returns-6 : tie.Need-returns-6
-unfolding withinLimit
+unfolding within_limit
 returns-6 c =
     let r = c.before in
     simp (sized r.before.before.before.before, r.reading2.given.1)

@@ -4,23 +4,23 @@ use mathlib.Core.Bool.{true}
 use Prim.Native.Nat.{◌≤◌}
 use native.Mathlib.Omega.{arith}
 use borrow.Author.Rules.{rules}
-use Rattle.configuration.specs.Writing.{goodSide, sideByte, eitherSide}
-use Rattle.configuration.specs.Lemmas.Sides.{present-small, side-byte-small, either-good, wider}
+use Rattle.configuration.specs.Writing.{good_side, side_byte, either_side}
+use Rattle.configuration.specs.Lemmas.Sides.{present_small, side_byte_small, either_good, wider}
 use Rattle.configuration_writer.proofs.writing.general_byte.Statement.{statement}
 use Rattle.configuration_writer.proofs.writing.general_byte.Tie as tie
 
 input : (c : tie.After-present) → c.present.result ≤ 1
-input c = omega (arith, present-small c.before.before.args.input)
+input c = omega (arith, present_small c.before.before.args.input)
 
 output : (c : tie.After-present2) → c.present2.result ≤ 1
-output c = omega (arith, present-small c.before.before.before.args.output)
+output c = omega (arith, present_small c.before.before.before.args.output)
 
 -- the side that is written
-good : (c : tie.After-either) → goodSide 16 (eitherSide c.before.args.input c.before.args.output) ≡ true
-good c = either-good _ _ c.before.requires
+good : (c : tie.After-either) → good_side 16 (either_side c.before.args.input c.before.args.output) ≡ true
+good c = either_good _ _ c.before.requires
 
-side : (c : tie.After-side-byte) → let a = c.before.before.before.before.args in c.side-byte.result ≡ sideByte (eitherSide a.input a.output)
-side c = c.side-byte.ensures ∙ ap sideByte c.before.before.before.either.ensures
+side : (c : tie.After-side-byte) → let a = c.before.before.before.before.args in c.side-byte.result ≡ side_byte (either_side a.input a.output)
+side c = c.side-byte.ensures ∙ ap side_byte c.before.before.before.either.ensures
 
 either-requires : tie.Need-either-requires
 either-requires c κs = search rules
@@ -43,12 +43,12 @@ add-result c = omega (arith, input c.before, output c)
 side-byte-requires : tie.Need-side-byte-requires
 side-byte-requires c κs =
     let e = c.before.before in
-    rw e.either.ensures (wider (eitherSide e.before.args.input e.before.args.output) (good e))
+    rw e.either.ensures (wider (either_side e.before.args.input e.before.args.output) (good e))
 
 add-result-2 : tie.Need-overflow-add-result-2
 add-result-2 c =
     let e = c.before.before.before in
-    omega (arith, input c.before.before, output c.before, side-byte-small 16 (eitherSide e.before.args.input e.before.args.output) (omega arith) (good e), side c)
+    omega (arith, input c.before.before, output c.before, side_byte_small 16 (either_side e.before.args.input e.before.args.output) (omega arith) (good e), side c)
 
 returns : tie.Need-returns
 returns c =

@@ -4,7 +4,7 @@ use mathlib.Core.Bool.{Bool, beq}
 use borrow.Author.Tests.{eq-eqb, ne_eqb, not-true, not-false}
 use borrow.Author.Rules.{rules}
 use Rattle.octets.specs.Choice.{◌and◌}
-use Rattle.configuration.specs.Writing.{goodUnits, goodGeneral}
+use Rattle.configuration.specs.Writing.{good_units, good_general}
 use Rattle.configuration_writer.proofs.writing.good_general.Statement.{statement}
 use Rattle.configuration_writer.proofs.writing.good_general.Tie as tie
 
@@ -20,8 +20,8 @@ rest : (e : tie.Else1) →
     let k = e.before in
     let g = k.before.before.before.before in
     let a = g.before.before.args in
-    goodGeneral a.input a.output ≡ (words k and consistent k and goodUnits 16 g.input.given.0.0)
-unfolding goodGeneral
+    good_general a.input a.output ≡ (words k and consistent k and good_units 16 g.input.given.0.0)
+unfolding good_general
 rest e =
     let o = e.before.before in
     simp (o.before.before.before.input.given.1, o.output2.given.1, eq-eqb _ _ e.if1.false)
@@ -51,7 +51,7 @@ enum-known-output-2 : tie.Need-enum-known-output-2
 enum-known-output-2 c = search rules
 
 returns : tie.Need-returns
-unfolding goodGeneral
+unfolding good_general
 returns c =
     let o = c.before.before in
     simp (o.before.before.before.input.given.1, o.output2.given.1, ne_eqb _ _ c.if1.true)
@@ -69,17 +69,17 @@ good-units-requires-3 : tie.Need-good-units-requires-3
 good-units-requires-3 c κs = search rules
 
 returns-4 : tie.Need-returns-4
-unfolding goodGeneral
+unfolding good_general
 returns-4 c = simp (c.before.before.enum_told.given.1, c.enum-told2.given.1)
 
 returns-5 : tie.Need-returns-5
-unfolding goodGeneral
+unfolding good_general
 returns-5 c =
     let o = c.before.before in
-    simp (o.before.before.enum_told.given.1, o.output.given.1) c.good-units.ensures
+    simp (o.before.before.enum_told.given.1, o.output.given.1) c.good_units_lem.ensures
 
 returns-6 : tie.Need-returns-6
-unfolding goodGeneral
+unfolding good_general
 returns-6 c =
     let o = c.before in
     simp (o.before.before.before.input.given.1, o.enum-told3.given.1) c.good-units2.ensures

@@ -1,14 +1,14 @@
 -- `configuration_writer::writing::put_input` meets its contract. Two stores: the vendor bytes behind the length byte.
 use borrow.Author.Rules.{rules}
 use Rattle.octets.specs.Front.{first_fits, both_stored}
-use Rattle.configuration.specs.Writing.{sideBytes}
+use Rattle.configuration.specs.Writing.{side_bytes}
 use Rattle.configuration_writer.proofs.writing.put_input.Statement.{statement}
 use Rattle.configuration_writer.proofs.writing.put_input.Tie as tie
 
 put-side-requires : tie.Need-put-side-requires
 put-side-requires c κs =
     let b = c.before.before.before in
-    (b.requires.0, first_fits (sideBytes b.args.input) b.args.vendor.now b.requires.1)
+    (b.requires.0, first_fits (side_bytes b.args.input) b.args.vendor.now b.requires.1)
 
 store-behind-requires : tie.Need-store-behind-requires
 store-behind-requires c κs = search rules

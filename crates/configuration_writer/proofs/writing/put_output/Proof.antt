@@ -3,19 +3,19 @@ use mathlib.Core.List.{List, ◌++◌}
 use Prim.Native.Nat.{ℕ}
 use native.Mathlib.Omega.{arith}
 use borrow.Author.Rules.{rules}
-use Rattle.octets.specs.Front.{first_fits, within, rest-fits, both}
-use Rattle.configuration.specs.Writing.{sideBytes}
+use Rattle.octets.specs.Front.{first_fits, within, rest_fits, both}
+use Rattle.configuration.specs.Writing.{side_bytes}
 use Rattle.configuration_writer.proofs.writing.put_output.Statement.{statement}
 use Rattle.configuration_writer.proofs.writing.put_output.Tie as tie
 
 -- what `put_input` stores
 abbrev rest_at : tie.Start → List ℕ
-rest_at b = sideBytes b.args.input ++ b.args.vendor.now
+rest_at b = side_bytes b.args.input ++ b.args.vendor.now
 
 put-side-requires : tie.Need-put-side-requires
 put-side-requires c κs =
     let b = c.before.before.before in
-    (b.requires.0, first_fits (sideBytes b.args.output) (rest_at b) b.requires.2)
+    (b.requires.0, first_fits (side_bytes b.args.output) (rest_at b) b.requires.2)
 
 sub-put-input : tie.Need-overflow-sub-put-input
 sub-put-input c =
@@ -33,7 +33,7 @@ put-input-requires : tie.Need-put-input-requires
 put-input-requires c κs =
     let p = c.before.before.before in
     let b = p.before.before.before.before in
-    (b.requires.1, rest-fits p.put-side.ensures (rest_at b) b.requires.2)
+    (b.requires.1, rest_fits p.put-side.ensures (rest_at b) b.requires.2)
 
 returns : tie.Need-returns
 returns c = both c.before.before.before.before.before.before.put-side.ensures c.before.before.put-input.ensures

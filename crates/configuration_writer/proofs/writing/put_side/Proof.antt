@@ -5,14 +5,14 @@ use Prim.Native.Nat.{◌≤◌}
 use lib.ListN.{length}
 use borrow.Author.Rules.{rules}
 use Rattle.octets.specs.Front.{stores}
-use Rattle.configuration.specs.Writing.{sideByte, sideBytes}
+use Rattle.configuration.specs.Writing.{side_byte, side_bytes}
 use Rattle.configuration_writer.proofs.writing.put_side.Statement.{statement}
 use Rattle.configuration_writer.proofs.writing.put_side.Tie as tie
 
 room : (c : tie.After-side-byte) → 1 ≤ length c.before.before.before.before.args.out.now
 room c = rw c.before.enum-told2.given.1 at c.before.before.before.before.requires.1
 
-sides : (c : tie.After-side-byte) → let a = c.before.before.before.before.args in sideBytes a.side ≡ sideByte a.side ∷ []
+sides : (c : tie.After-side-byte) → let a = c.before.before.before.before.args in side_bytes a.side ≡ side_byte a.side ∷ []
 sides c = rw c.before.enum-told2.given.1
 
 enum_told : tie.Need-enum-told
@@ -36,7 +36,7 @@ same_length c = search rules
 returns-2 : tie.Need-returns-2
 returns-2 c =
     let a = c.before.before.before.before.args in
-    rw c.side-byte.ensures (rw (sides c) (stores (sideByte a.side ∷ []) a.out.now (room c)))
+    rw c.side-byte.ensures (rw (sides c) (stores (side_byte a.side ∷ []) a.out.now (room c)))
 
 pub put-side-spec : {M : Type 1} → statement M
 put-side-spec =

@@ -5,9 +5,9 @@ use Prim.Native.Nat.{ℕ, ◌+◌, ◌*◌, ◌≤◌}
 use native.Mathlib.Omega.{arith}
 use lib.ListN.{length, set, length-append, length-drop}
 use borrow.Author.Rules.{rules}
-use Rattle.octets.specs.Front.{AtFront, stores, first_fits, within, rest-fits, both}
-use Rattle.configuration.specs.Writing.{sideBytes, specialBytes}
-use Rattle.configuration.specs.Lemmas.Sides.{present-small}
+use Rattle.octets.specs.Front.{AtFront, stores, first_fits, within, rest_fits, both}
+use Rattle.configuration.specs.Writing.{side_bytes, special_bytes}
+use Rattle.configuration.specs.Lemmas.Sides.{present_small}
 use Rattle.configuration_writer.proofs.writing.put_special.Statement.{statement}
 use Rattle.configuration_writer.proofs.writing.put_special.Tie as tie
 
@@ -16,28 +16,28 @@ entry c = c.before.before.before.before
 
 -- what each length byte counts
 output : (c : tie.After-present) → c.present.result ≤ 1
-output c = omega (arith, present-small c.before.before.before.args.output)
+output c = omega (arith, present_small c.before.before.before.args.output)
 
 input : (c : tie.After-present2) → c.present2.result ≤ 1
-input c = omega (arith, present-small (entry c).args.input)
+input c = omega (arith, present_small (entry c).args.input)
 
 -- the identifier byte, and what `put_output` stores
-abbrev headAt : tie.After-present2 → List ℕ
-headAt c = (128 * c.before.present.result + 64 * c.present2.result + length (entry c).args.vendor.now) ∷ []
+abbrev head_at : tie.After-present2 → List ℕ
+head_at c = (128 * c.before.present.result + 64 * c.present2.result + length (entry c).args.vendor.now) ∷ []
 
 abbrev rest_at : tie.After-present2 → List ℕ
-rest_at c = sideBytes (entry c).args.output ++ (sideBytes (entry c).args.input ++ (entry c).args.vendor.now)
+rest_at c = side_bytes (entry c).args.output ++ (side_bytes (entry c).args.input ++ (entry c).args.vendor.now)
 
-whole : (c : tie.After-present2) → specialBytes (entry c).args.input (entry c).args.output (entry c).args.vendor.now ≡ headAt c ++ rest_at c
-unfolding specialBytes
+whole : (c : tie.After-present2) → special_bytes (entry c).args.input (entry c).args.output (entry c).args.vendor.now ≡ head_at c ++ rest_at c
+unfolding special_bytes
 whole c =
     ap₂ (λ (a b : ℕ). (128 * a + 64 * b + length (entry c).args.vendor.now) ∷ rest_at c) (sym c.before.present.ensures) (sym c.present2.ensures)
 
-room : (c : tie.After-present2) → length (headAt c ++ rest_at c) ≤ length (entry c).args.out.now
+room : (c : tie.After-present2) → length (head_at c ++ rest_at c) ≤ length (entry c).args.out.now
 room c = rw (whole c) at (entry c).requires.3
 
-head : (c : tie.After-present2) → AtFront (headAt c) (entry c).args.out.now (set (entry c).args.out.now 0 (128 * c.before.present.result + 64 * c.present2.result + length (entry c).args.vendor.now)) 1
-head c = stores (headAt c) (entry c).args.out.now (first_fits (headAt c) (rest_at c) (room c))
+head : (c : tie.After-present2) → AtFront (head_at c) (entry c).args.out.now (set (entry c).args.out.now 0 (128 * c.before.present.result + 64 * c.present2.result + length (entry c).args.vendor.now)) 1
+head c = stores (head_at c) (entry c).args.out.now (first_fits (head_at c) (rest_at c) (room c))
 
 present-requires : tie.Need-present-requires
 present-requires c κs = search rules
@@ -61,7 +61,7 @@ add-out-2 : tie.Need-overflow-add-out-2
 add-out-2 c = omega (arith, output c.before, input c, (entry c).requires.2)
 
 slice-write-out : tie.Need-slice-write-out
-slice-write-out c = first_fits (headAt c) (rest_at c) (room c)
+slice-write-out c = first_fits (head_at c) (rest_at c) (room c)
 
 sub-put-output : tie.Need-overflow-sub-put-output
 sub-put-output c = omega (arith, within (head c) (rest_at c) (room c))
@@ -75,7 +75,7 @@ part-put-output-end c = search rules
 put-output-requires : tie.Need-put-output-requires
 put-output-requires c κs =
     let p = c.before in
-    ((entry p).requires.0, (entry p).requires.1, rest-fits (head p) (rest_at p) (room p))
+    ((entry p).requires.0, (entry p).requires.1, rest_fits (head p) (rest_at p) (room p))
 
 returns : tie.Need-returns
 returns c =

@@ -5,22 +5,22 @@ use Prim.Native.Nat.{◌≤◌}
 use mir.Val.{bool_byte}
 use native.Mathlib.Omega.{arith}
 use borrow.Author.Rules.{rules}
-use Rattle.configuration.specs.Writing.{bit, goodSide}
-use Rattle.configuration.specs.Lemmas.Sides.{bit-small, Units, units}
+use Rattle.configuration.specs.Writing.{bit, good_side}
+use Rattle.configuration.specs.Lemmas.Sides.{bit_small, Units, units}
 use Rattle.configuration_writer.proofs.writing.side_byte.Statement.{statement}
 use Rattle.configuration_writer.proofs.writing.side_byte.Tie as tie
 
 -- a flag as a number
-byte-bit : (b : Bool) → bool_byte b ≡ bit b
-byte-bit true = refl
-byte-bit false = refl
+byte_bit : (b : Bool) → bool_byte b ≡ bit b
+byte_bit true = refl
+byte_bit false = refl
 
 flag : (b : Bool) → bool_byte b ≤ 1
-flag b = omega (arith, byte-bit b, bit-small b)
+flag b = omega (arith, byte_bit b, bit_small b)
 
 -- the fields, of which the units are good
 good : (c : tie.After-known-told) → Units 64 c.before.side.given.0.0
-good c = units 64 _ (sym (ap (goodSide 64) c.before.side.given.1) ∙ c.before.before.before.requires)
+good c = units 64 _ (sym (ap (good_side 64) c.before.side.given.1) ∙ c.before.before.before.requires)
 
 abbrev words : tie.After-known-told → Bool
 words c = c.before.side.given.0.1.0
@@ -59,7 +59,7 @@ returns : tie.Need-returns
 returns c = search rules
 
 returns-2 : tie.Need-returns-2
-returns-2 c = rw (c.before.side.given.1, byte-bit (words c), byte-bit (consistent c))
+returns-2 c = rw (c.before.side.given.1, byte_bit (words c), byte_bit (consistent c))
 
 pub side-byte-spec : {M : Type 1} → statement M
 side-byte-spec =

@@ -2,13 +2,13 @@
 use mathlib.Core.Path.{◌≡◌, sym, ap, ◌∙◌}
 use borrow.Author.Rules.{rules}
 use Rattle.octets.specs.Front.{fine, at_front, refused, too_small, stored}
-use Rattle.configuration.specs.Writing.{verdictIn, verdictOf}
+use Rattle.configuration.specs.Writing.{verdict_in, verdict_of}
 use Rattle.configuration_writer.proofs.writing.write.Statement.{statement}
 use Rattle.configuration_writer.proofs.writing.write.Tie as tie
 
 -- what reading accepts may be written
-fine-here : (c : tie.After-enum-told) → verdictOf c.before.before.before.before.before.args.modules.now ≡ fine
-fine-here c = ap verdictIn (sym c.before.before.read.ensures ∙ c.enum_told.given.1)
+fine_here : (c : tie.After-enum-told) → verdict_of c.before.before.before.before.before.args.modules.now ≡ fine
+fine_here c = ap verdict_in (sym c.before.before.read.ensures ∙ c.enum_told.given.1)
 
 read-requires : tie.Need-read-requires
 read-requires c κs = search rules
@@ -23,7 +23,7 @@ returns : tie.Need-returns
 returns c =
     let e = c.before in
     let b = e.before.before.before.before.before in
-    rw (fine-here e) (too_small b.args.modules.now b.args.out.now c.if1.true)
+    rw (fine_here e) (too_small b.args.modules.now b.args.out.now c.if1.true)
 
 store-requires : tie.Need-store-requires
 store-requires c κs = search rules
@@ -41,7 +41,7 @@ returns-3 : tie.Need-returns-3
 returns-3 c =
     let s = c.before.before in
     let e = s.before.before in
-    rw (fine-here e.before) (stored e.if1.false (at_front s.store.ensures.0 s.store.ensures.1 e.if1.false))
+    rw (fine_here e.before) (stored e.if1.false (at_front s.store.ensures.0 s.store.ensures.1 e.if1.false))
 
 pub write_spec : {M : Type 1} → statement M
 write_spec =

@@ -6,23 +6,23 @@ use Prim.Native.Nat.{ℕ}
 use borrow.Author.Tests.{lt-ltb, le-ltb, not-true, not-false}
 use borrow.Author.Rules.{rules}
 use Rattle.octets.specs.Front.{fine, stores, refused, too_small, stored}
-use Rattle.configuration.specs.Writing.{goodGeneral, generalByte, generalVerdict}
+use Rattle.configuration.specs.Writing.{good_general, general_byte, general_verdict}
 use Rattle.configuration_writer.proofs.writing.write_general.Statement.{statement}
 use Rattle.configuration_writer.proofs.writing.write_general.Tie as tie
 
 abbrev bytes_at : tie.Start → List ℕ
-bytes_at b = generalByte b.args.input b.args.output ∷ []
+bytes_at b = general_byte b.args.input b.args.output ∷ []
 
 -- what the tests leave
-good : (c : tie.Else2) → let a = c.before.before.before.before.before.args in goodGeneral a.input a.output ≡ true
+good : (c : tie.Else2) → let a = c.before.before.before.before.before.args in good_general a.input a.output ≡ true
 good c = sym c.before.good-general.ensures ∙ not-false _ c.if2.false
 
-verdict : (c : tie.Else2) → let a = c.before.before.before.before.before.args in generalVerdict a.input a.output a.vendor.now ≡ fine
-unfolding generalVerdict
+verdict : (c : tie.Else2) → let a = c.before.before.before.before.before.args in general_verdict a.input a.output a.vendor.now ≡ fine
+unfolding general_verdict
 verdict c = simp (le-ltb _ _ c.before.before.if1.false, good c)
 
 returns : tie.Need-returns
-unfolding generalVerdict
+unfolding general_verdict
 returns c =
     let b = c.before.before.before in
     simp (lt-ltb _ _ c.if1.true) (refused 20 (bytes_at b) b.args.out.now)
@@ -31,7 +31,7 @@ good-general-requires : tie.Need-good-general-requires
 good-general-requires c κs = search rules
 
 returns-2 : tie.Need-returns-2
-unfolding generalVerdict
+unfolding general_verdict
 returns-2 c =
     let e = c.before.before in
     let b = e.before.before.before in

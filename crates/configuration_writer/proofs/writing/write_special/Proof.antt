@@ -8,26 +8,26 @@ use lib.ListN.{length}
 use borrow.Author.Tests.{lt-ltb, le-ltb, eq-eqb, ne_eqb, not-true, not-false}
 use borrow.Author.Rules.{rules}
 use Rattle.octets.specs.Front.{fine, refused, too_small, stored}
-use Rattle.configuration.specs.Writing.{goodSide, specialBytes, specialVerdict}
-use Rattle.configuration.specs.Lemmas.Sides.{present-small, special-length}
+use Rattle.configuration.specs.Writing.{good_side, special_bytes, special_verdict}
+use Rattle.configuration.specs.Lemmas.Sides.{present_small, special_length_lem}
 use Rattle.configuration_writer.proofs.writing.write_special.Statement.{statement}
 use Rattle.configuration_writer.proofs.writing.write_special.Tie as tie
 
 abbrev bytes_at : tie.Start → List ℕ
-bytes_at b = specialBytes b.args.input b.args.output b.args.vendor.now
+bytes_at b = special_bytes b.args.input b.args.output b.args.vendor.now
 
 -- what the tests leave
-output : (c : tie.Else3) → goodSide 64 c.before.before.before.before.before.before.args.output ≡ true
+output : (c : tie.Else3) → good_side 64 c.before.before.before.before.before.before.args.output ≡ true
 output c = sym c.before.good-side.ensures ∙ not-false _ c.if3.false
 
 abbrev entry : tie.Else4 → tie.Start
 entry c = c.before.before.before.before.before.before.before.before
 
-input : (c : tie.Else4) → goodSide 64 (entry c).args.input ≡ true
+input : (c : tie.Else4) → good_side 64 (entry c).args.input ≡ true
 input c = sym c.before.good-side2.ensures ∙ not-false _ c.if4.false
 
-verdict : (c : tie.Else4) → specialVerdict (entry c).args.input (entry c).args.output (entry c).args.vendor.now ≡ fine
-unfolding specialVerdict
+verdict : (c : tie.Else4) → special_verdict (entry c).args.input (entry c).args.output (entry c).args.vendor.now ≡ fine
+unfolding special_verdict
 verdict c =
     let o = c.before.before in
     let v = o.before.before in
@@ -39,16 +39,16 @@ total :
     length (bytes_at (entry c.before.before)) ≡ 1 + c.before.present.result + c.present2.result + length (entry c.before.before).args.vendor.now
 total c =
     let a = (entry c.before.before).args in
-    omega (arith, special-length a.input a.output a.vendor.now)
+    omega (arith, special_length_lem a.input a.output a.vendor.now)
 
 returns : tie.Need-returns
-unfolding specialVerdict
+unfolding special_verdict
 returns c =
     let b = c.before.before.before in
     simp (lt-ltb _ _ c.if1.true) (refused 21 (bytes_at b) b.args.out.now)
 
 returns-2 : tie.Need-returns-2
-unfolding specialVerdict
+unfolding special_verdict
 returns-2 c =
     let b = c.before.before.before.before in
     simp (le-ltb _ _ c.before.if1.false, eq-eqb _ _ c.if2.true) (refused 26 (bytes_at b) b.args.out.now)
@@ -57,7 +57,7 @@ good-side-requires : tie.Need-good-side-requires
 good-side-requires c κs = search rules
 
 returns-3 : tie.Need-returns-3
-unfolding specialVerdict
+unfolding special_verdict
 returns-3 c =
     let v = c.before.before in
     let b = v.before.before.before.before in
@@ -69,7 +69,7 @@ good-side-requires-2 : tie.Need-good-side-requires-2
 good-side-requires-2 c κs = search rules
 
 returns-4 : tie.Need-returns-4
-unfolding specialVerdict
+unfolding special_verdict
 returns-4 c =
     let o = c.before.before in
     let v = o.before.before in
@@ -82,7 +82,7 @@ present-requires : tie.Need-present-requires
 present-requires c κs = search rules
 
 add-front : tie.Need-overflow-add-front
-add-front c = omega (arith, present-small (entry c.before).args.output)
+add-front c = omega (arith, present_small (entry c.before).args.output)
 
 present-requires-2 : tie.Need-present-requires-2
 present-requires-2 c κs = search rules
@@ -90,7 +90,7 @@ present-requires-2 c κs = search rules
 add-front-2 : tie.Need-overflow-add-front-2
 add-front-2 c =
     let a = (entry c.before.before).args in
-    omega (arith, present-small a.output, present-small a.input)
+    omega (arith, present_small a.output, present_small a.input)
 
 cast-if5 : tie.Need-overflow-cast-if5
 cast-if5 c = search rules

@@ -1,5 +1,5 @@
 -- `content_reader::reading::read_diagnosis` meets its contract: as the reading of the format says; a diagnosis has six bytes.
-use Rattle.diagnosis.specs.Laws.{read-is-tiled}
+use Rattle.diagnosis.specs.Laws.{read_is_tiled}
 use mathlib.Core.Path.{sym, ◌∙◌}
 use native.Mathlib.Omega.{arith}
 use borrow.Author.Rules.{rules}
@@ -15,7 +15,7 @@ enum-known-reading c = search rules
 sub-t8 : tie.Need-overflow-sub-t8
 sub-t8 c =
     let r = c.before.before.before in
-    omega (arith, (read-is-tiled r.before.before.args.user.now (sym r.read.ensures ∙ c.before.reading.given.1)).long)
+    omega (arith, (read_is_tiled r.before.before.args.user.now (sym r.read.ensures ∙ c.before.reading.given.1)).long)
 
 enum-known-reading-2 : tie.Need-enum-known-reading-2
 enum-known-reading-2 c = search rules

@@ -14,10 +14,10 @@ enum-known-reading-2 : tie.Need-enum-known-reading-2
 enum-known-reading-2 c = search rules
 
 returns : tie.Need-returns
-returns c = simp (sym c.before.before.before.read-call.ensures ∙ c.before.reading.given.1)
+returns c = simp (sym c.before.before.before.read_call.ensures ∙ c.before.reading.given.1)
 
 returns-2 : tie.Need-returns-2
-returns-2 c = simp (sym c.before.before.before.read-call.ensures ∙ c.before.reading2.given.1)
+returns-2 c = simp (sym c.before.before.before.read_call.ensures ∙ c.before.reading2.given.1)
 
 pub read-dpv1-call-spec : {M : Type 1} → statement M
 read-dpv1-call-spec =

@@ -1,6 +1,6 @@
 -- `content_writer::writing::write_answer` meets its contract: each content has its writer.
 use Rattle.octets.specs.Front.{refused}
-use Rattle.content.specs.Writing.{bytesFor, answerVerdict}
+use Rattle.content.specs.Writing.{bytes_for, answer_verdict}
 use borrow.Author.Rules.{rules}
 use Rattle.content_writer.proofs.writing.write_answer.Statement.{statement}
 use Rattle.content_writer.proofs.writing.write_answer.Tie as tie
@@ -66,70 +66,70 @@ same_length : tie.Need-same-length
 same_length c = search rules
 
 returns : tie.Need-returns
-unfolding answerVerdict bytesFor
+unfolding answer_verdict bytes_for
 returns c = let w = c.before.before in rw w.before.before.enum_told.given.1 w.write-at-most.ensures
 
 returns-2 : tie.Need-returns-2
-unfolding answerVerdict bytesFor
+unfolding answer_verdict bytes_for
 returns-2 c = rw c.enum-told2.given.1 (refused 10 _ _)
 
 same-length-2 : tie.Need-same-length-2
 same-length-2 c = search rules
 
 returns-3 : tie.Need-returns-3
-unfolding answerVerdict bytesFor
-returns-3 c = let w = c.before.before in rw w.before.before.before.content.given.1 w.write-answer.ensures
+unfolding answer_verdict bytes_for
+returns-3 c = let w = c.before.before in rw w.before.before.before.content.given.1 w.write_answer.ensures
 
 returns-4 : tie.Need-returns-4
-unfolding answerVerdict bytesFor
+unfolding answer_verdict bytes_for
 returns-4 c = rw c.enum-told3.given.1 (refused 10 _ _)
 
 returns-5 : tie.Need-returns-5
-unfolding answerVerdict bytesFor
+unfolding answer_verdict bytes_for
 returns-5 c = rw c.enum-told4.given.1 (refused 10 _ _)
 
 same-length-3 : tie.Need-same-length-3
 same-length-3 c = search rules
 
 returns-6 : tie.Need-returns-6
-unfolding answerVerdict bytesFor
+unfolding answer_verdict bytes_for
 returns-6 c = let w = c.before.before in rw w.before.before.enum-told5.given.1 w.write-at-most2.ensures
 
 same-length-4 : tie.Need-same-length-4
 same-length-4 c = search rules
 
 returns-7 : tie.Need-returns-7
-unfolding answerVerdict bytesFor
+unfolding answer_verdict bytes_for
 returns-7 c = let w = c.before.before in rw w.before.before.enum-told6.given.1 w.write-at-most3.ensures
 
 returns-8 : tie.Need-returns-8
-unfolding answerVerdict bytesFor
+unfolding answer_verdict bytes_for
 returns-8 c = rw c.enum-told7.given.1 (refused 10 _ _)
 
 same-length-5 : tie.Need-same-length-5
 same-length-5 c = search rules
 
 returns-9 : tie.Need-returns-9
-unfolding answerVerdict bytesFor
+unfolding answer_verdict bytes_for
 returns-9 c = let w = c.before.before in rw w.before.before.enum-told8.given.1 w.write.ensures
 
 returns-10 : tie.Need-returns-10
-unfolding answerVerdict bytesFor
+unfolding answer_verdict bytes_for
 returns-10 c = rw c.enum-told9.given.1 (refused 10 _ _)
 
 same-length-6 : tie.Need-same-length-6
 same-length-6 c = search rules
 
 returns-11 : tie.Need-returns-11
-unfolding answerVerdict bytesFor
+unfolding answer_verdict bytes_for
 returns-11 c = let w = c.before.before in rw w.before.before.before.content2.given.1 w.write2.ensures
 
 returns-12 : tie.Need-returns-12
-unfolding answerVerdict bytesFor
+unfolding answer_verdict bytes_for
 returns-12 c = rw c.enum-told10.given.1 (refused 10 _ _)
 
 returns-13 : tie.Need-returns-13
-unfolding answerVerdict bytesFor
+unfolding answer_verdict bytes_for
 returns-13 c = rw c.enum-told11.given.1 (refused 10 _ _)
 
 pub write-answer-spec : {M : Type 1} → statement M

@@ -1,6 +1,6 @@
 -- `content_writer::writing::write_call` meets its contract: each content has its writer.
 use Rattle.octets.specs.Front.{refused}
-use Rattle.content.specs.Writing.{bytesFor, callVerdict}
+use Rattle.content.specs.Writing.{bytes_for, call_verdict}
 use borrow.Author.Rules.{rules}
 use Rattle.content_writer.proofs.writing.write_call.Statement.{statement}
 use Rattle.content_writer.proofs.writing.write_call.Tie as tie
@@ -81,85 +81,85 @@ same_length : tie.Need-same-length
 same_length c = search rules
 
 returns : tie.Need-returns
-unfolding callVerdict bytesFor
+unfolding call_verdict bytes_for
 returns c = let w = c.before.before in rw w.before.before.enum_told.given.1 w.write-at-most.ensures
 
 same-length-2 : tie.Need-same-length-2
 same-length-2 c = search rules
 
 returns-2 : tie.Need-returns-2
-unfolding callVerdict bytesFor
-returns-2 c = let w = c.before.before in rw w.before.before.before.content.given.1 w.write-call.ensures
+unfolding call_verdict bytes_for
+returns-2 c = let w = c.before.before in rw w.before.before.before.content.given.1 w.write_call.ensures
 
 returns-3 : tie.Need-returns-3
-unfolding callVerdict bytesFor
+unfolding call_verdict bytes_for
 returns-3 c = rw c.enum-told2.given.1 (refused 10 _ _)
 
 same-length-3 : tie.Need-same-length-3
 same-length-3 c = search rules
 
 returns-4 : tie.Need-returns-4
-unfolding callVerdict bytesFor
+unfolding call_verdict bytes_for
 returns-4 c = let w = c.before.before in rw w.before.before.enum-told3.given.1 w.write-at-most2.ensures
 
 same-length-4 : tie.Need-same-length-4
 same-length-4 c = search rules
 
 returns-5 : tie.Need-returns-5
-unfolding callVerdict bytesFor
+unfolding call_verdict bytes_for
 returns-5 c = let w = c.before.before in rw w.before.before.before.content2.given.1 w.write-address-change.ensures
 
 same-length-5 : tie.Need-same-length-5
 same-length-5 c = search rules
 
 returns-6 : tie.Need-returns-6
-unfolding callVerdict bytesFor
+unfolding call_verdict bytes_for
 returns-6 c = let w = c.before.before in rw w.before.before.enum-told4.given.1 w.write-at-most3.ensures
 
 same-length-6 : tie.Need-same-length-6
 same-length-6 c = search rules
 
 returns-7 : tie.Need-returns-7
-unfolding callVerdict bytesFor
+unfolding call_verdict bytes_for
 returns-7 c = let w = c.before.before in rw w.before.before.enum-told5.given.1 w.write-at-most4.ensures
 
 same-length-7 : tie.Need-same-length-7
 same-length-7 c = search rules
 
 returns-8 : tie.Need-returns-8
-unfolding callVerdict bytesFor
+unfolding call_verdict bytes_for
 returns-8 c = let w = c.before.before in rw w.before.before.before.content3.given.1 w.write-global-command.ensures
 
 same-length-8 : tie.Need-same-length-8
 same-length-8 c = search rules
 
 returns-9 : tie.Need-returns-9
-unfolding callVerdict bytesFor
+unfolding call_verdict bytes_for
 returns-9 c = let w = c.before.before in rw w.before.before.enum-told6.given.1 w.write-at-most5.ensures
 
 same-length-9 : tie.Need-same-length-9
 same-length-9 c = search rules
 
 returns-10 : tie.Need-returns-10
-unfolding callVerdict bytesFor
+unfolding call_verdict bytes_for
 returns-10 c = let w = c.before.before in rw w.before.before.enum-told7.given.1 w.write-at-most6.ensures
 
 returns-11 : tie.Need-returns-11
-unfolding callVerdict bytesFor
+unfolding call_verdict bytes_for
 returns-11 c = rw c.enum-told8.given.1 (refused 10 _ _)
 
 same-length-10 : tie.Need-same-length-10
 same-length-10 c = search rules
 
 returns-12 : tie.Need-returns-12
-unfolding callVerdict bytesFor
+unfolding call_verdict bytes_for
 returns-12 c = let w = c.before.before in rw w.before.before.before.content4.given.1 w.write.ensures
 
 same-length-11 : tie.Need-same-length-11
 same-length-11 c = search rules
 
 returns-13 : tie.Need-returns-13
-unfolding callVerdict bytesFor
+unfolding call_verdict bytes_for
 returns-13 c = let w = c.before.before in rw w.before.before.enum-told9.given.1 w.write2.ensures
 
 pub write-call-spec : {M : Type 1} → statement M

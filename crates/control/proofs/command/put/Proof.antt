@@ -1,7 +1,7 @@
 -- `control::command::put` meets its contract. Two bytes are stored in turn.
 use borrow.Author.Rules.{rules}
 use Rattle.octets.specs.Front.{stores}
-use Rattle.control.specs.Command.{fixedBytes}
+use Rattle.control.specs.Command.{fixed_bytes}
 use Rattle.control.proofs.command.put.Statement.{statement}
 use Rattle.control.proofs.command.put.Tie as tie
 
@@ -15,7 +15,7 @@ same_length : tie.Need-same-length
 same_length c = search rules
 
 returns : tie.Need-returns
-returns c = stores (fixedBytes c.args.fields) c.args.out.now c.requires
+returns c = stores (fixed_bytes c.args.fields) c.args.out.now c.requires
 
 pub put_spec : {M : Type 1} → statement M
 put_spec = tie.close (tie.spec slice-write-out slice-write-out-2 same_length returns)

@@ -6,18 +6,18 @@ use Prim.Native.Nat.{ℕ, ◌+◌, ◌≤◌}
 use native.Mathlib.Omega.{arith}
 use lib.ListN.{length}
 use borrow.Author.Rules.{rules}
-use Rattle.fdl.specs.Around.{goodFields}
+use Rattle.fdl.specs.Around.{good_fields}
 use Rattle.fdl.specs.Lemmas.Around.{Fit, fit}
-use Rattle.fdl.specs.Writing.{telegramOf}
+use Rattle.fdl.specs.Writing.{telegram_of}
 use Rattle.fdl.specs.declared.telegram.Format.TheVariants.{Sd2}
 use Rattle.fdl.specs.declared.telegram.Header.{Header}
 use Rattle.acyclic.specs.declared.calls.Call.TheVariants as call
-use Rattle.content.specs.Laws.{bytes-long}
-use Rattle.content.specs.Writing.{bytesFor}
+use Rattle.content.specs.Laws.{bytes_long}
+use Rattle.content.specs.Writing.{bytes_for}
 use Rattle.content.specs.declared.fields.Content.TheVariants as content
 use Rattle.protocol.specs.Line.{go}
 use Rattle.protocol.specs.Controller.{acted}
-use Rattle.controller.proofs.Written.{unsent, placed-short, placed-sent}
+use Rattle.controller.proofs.Written.{unsent, placed_short, placed_sent}
 use Rattle.controller.proofs.requests.put_body.Statement.{statement}
 use Rattle.controller.proofs.requests.put_body.Tie as tie
 
@@ -25,22 +25,22 @@ abbrev entry : tie.After-user-start → tie.Start
 entry c = c.before.before.before.before
 
 -- the data, behind this header
-abbrev dataAt : tie.Start → List ℕ
-dataAt b = bytesFor (content.Dpv1Call (call.Write 1 b.args.index)) b.args.body.now
+abbrev data_at : tie.Start → List ℕ
+data_at b = bytes_for (content.Dpv1Call (call.Write 1 b.args.index)) b.args.body.now
 
 abbrev header_at : tie.After-user-start → Header
 header_at c = c.before.header_of.result
 
-sized : (b : tie.Start) → length (dataAt b) ≡ 4 + length b.args.body.now
-sized b = bytes-long (content.Dpv1Call (call.Write 1 b.args.index)) b.args.body.now
+sized : (b : tie.Start) → length (data_at b) ≡ 4 + length b.args.body.now
+sized b = bytes_long (content.Dpv1Call (call.Write 1 b.args.index)) b.args.body.now
 
-good : (c : tie.After-user-start) → goodFields Sd2 (header_at c) (length (dataAt (entry c))) ≡ true
+good : (c : tie.After-user-start) → good_fields Sd2 (header_at c) (length (data_at (entry c))) ≡ true
 good c =
     let b = entry c in
-    subst (λ (h : Header). goodFields Sd2 h (length (dataAt b)) ≡ true) (sym c.before.header_of.ensures) (rw (sized b) b.pre.1)
+    subst (λ (h : Header). good_fields Sd2 h (length (data_at b)) ≡ true) (sym c.before.header_of.ensures) (rw (sized b) b.pre.1)
 
-fitAt : (c : tie.After-user-start) → Fit Sd2 (header_at c) (dataAt (entry c)) (length (dataAt (entry c)))
-fitAt c = fit Sd2 (header_at c) (dataAt (entry c)) refl (good c)
+fit_at : (c : tie.After-user-start) → Fit Sd2 (header_at c) (data_at (entry c)) (length (data_at (entry c)))
+fit_at c = fit Sd2 (header_at c) (data_at (entry c)) refl (good c)
 
 header-of-requires : tie.Need-header-of-requires
 header-of-requires c κs = search rules
@@ -49,20 +49,20 @@ user-start-requires : tie.Need-user-start-requires
 user-start-requires c κs = search rules
 
 add-if1 : tie.Need-overflow-add-if1
-add-if1 c = omega (arith, (fitAt c).most, c.user-start.ensures)
+add-if1 c = omega (arith, (fit_at c).most, c.user-start.ensures)
 
 add-if1-2 : tie.Need-overflow-add-if1-2
-add-if1-2 c = omega (arith, (fitAt c).most, c.user-start.ensures, sized (entry c))
+add-if1-2 c = omega (arith, (fit_at c).most, c.user-start.ensures, sized (entry c))
 
 add-if1-3 : tie.Need-overflow-add-if1-3
-add-if1-3 c = omega (arith, (fitAt c).most, c.user-start.ensures, sized (entry c))
+add-if1-3 c = omega (arith, (fit_at c).most, c.user-start.ensures, sized (entry c))
 
 returns : tie.Need-returns
 returns c =
     let u = c.before in
     let b = entry u in
-    unsent (telegramOf Sd2 (header_at u) (dataAt b)) b.args.request.now b.args.controller (omega (arith, (fitAt u).total, u.user-start.ensures, sized b, c.if1.true))
-    ∙ ap (λ (h : Header). acted (go (telegramOf Sd2 h (dataAt b)) b.args.controller) b.args.request.now) u.before.header_of.ensures
+    unsent (telegram_of Sd2 (header_at u) (data_at b)) b.args.request.now b.args.controller (omega (arith, (fit_at u).total, u.user-start.ensures, sized b, c.if1.true))
+    ∙ ap (λ (h : Header). acted (go (telegram_of Sd2 h (data_at b)) b.args.controller) b.args.request.now) u.before.header_of.ensures
 
 sub-put-data : tie.Need-overflow-sub-put-data
 sub-put-data c = search rules
@@ -80,7 +80,7 @@ write-around-requires : tie.Need-write-around-requires
 write-around-requires c κs = search rules
 
 -- the data stand behind this, and there is room for the telegram
-room_at : (e : tie.Else1) → e.before.user-start.result + length (dataAt (entry e.before)) + 2 ≤ length (entry e.before).args.request.now
+room_at : (e : tie.Else1) → e.before.user-start.result + length (data_at (entry e.before)) + 2 ≤ length (entry e.before).args.request.now
 room_at e = omega (arith, sized (entry e.before), e.if1.false)
 
 sent-requires : tie.Need-sent-requires
@@ -90,7 +90,7 @@ sent-requires c κs =
     let e = p.before.before in
     let u = e.before in
     let b = entry u in
-    placed-short Sd2 (header_at u) (dataAt b) b.args.request.now u.user-start.result u.user-start.ensures (good u) (room_at e) p.put-data.ensures w.write-around.ensures.0
+    placed_short Sd2 (header_at u) (data_at b) b.args.request.now u.user-start.result u.user-start.ensures (good u) (room_at e) p.put-data.ensures w.write-around.ensures.0
 
 same_length : tie.Need-same-length
 same_length c = search rules
@@ -102,8 +102,8 @@ returns-2 c =
     let e = p.before.before in
     let u = e.before in
     let b = entry u in
-    placed-sent Sd2 (header_at u) (dataAt b) b.args.request.now u.user-start.result u.user-start.ensures (good u) (room_at e) p.put-data.ensures w.write-around.ensures.0 b.args.controller w.write-around.ensures.1 c.sent.ensures
-    ∙ ap (λ (h : Header). acted (go (telegramOf Sd2 h (dataAt b)) b.args.controller) b.args.request.now) u.before.header_of.ensures
+    placed_sent Sd2 (header_at u) (data_at b) b.args.request.now u.user-start.result u.user-start.ensures (good u) (room_at e) p.put-data.ensures w.write-around.ensures.0 b.args.controller w.write-around.ensures.1 c.sent.ensures
+    ∙ ap (λ (h : Header). acted (go (telegram_of Sd2 h (data_at b)) b.args.controller) b.args.request.now) u.before.header_of.ensures
 
 pub put-body-spec : {M : Type 1} → statement M
 put-body-spec =

@@ -6,15 +6,15 @@ use native.Mathlib.Omega.{arith}
 use lib.ListN.{length, length-set, length-append}
 use borrow.Author.Rules.{rules}
 use Rattle.octets.specs.Front.{stores, both_stored}
-use Rattle.content.specs.Writing.{bytesFor}
+use Rattle.content.specs.Writing.{bytes_for}
 use Rattle.controller.proofs.requests.put_data.Statement.{statement}
 use Rattle.controller.proofs.requests.put_data.Tie as tie
 
 abbrev entry : tie.After-slice-known → tie.Start
 entry c = c.before.before
 
-abbrev headAt : tie.Start → List ℕ
-headAt b = 0x5F ∷ 1 ∷ b.args.index ∷ length b.args.body.now ∷ []
+abbrev head_at : tie.Start → List ℕ
+head_at b = 0x5F ∷ 1 ∷ b.args.index ∷ length b.args.body.now ∷ []
 
 slice-write-out : tie.Need-slice-write-out
 slice-write-out c = search rules
@@ -38,13 +38,13 @@ same_length : tie.Need-same-length
 same_length c = c.before.out.given ∙ simp length-set
 
 returns : tie.Need-returns
-unfolding bytesFor
+unfolding bytes_for
 returns c =
     let s = c.before.before in
     let b = entry s.before.before in
     let l = b.args.out.now in
-    both_stored (stores (headAt b) l (omega (arith, b.pre.1))) b.args.body.now s.store-behind.ensures.0 s.store-behind.ensures.1
-    (omega (arith, length-append (headAt b) b.args.body.now, b.pre.1))
+    both_stored (stores (head_at b) l (omega (arith, b.pre.1))) b.args.body.now s.store-behind.ensures.0 s.store-behind.ensures.1
+    (omega (arith, length-append (head_at b) b.args.body.now, b.pre.1))
 
 pub put-data-spec : {M : Type 1} → statement M
 put-data-spec =

@@ -5,9 +5,9 @@ use lib.ListN.{length}
 use Rattle.fdl.specs.declared.telegram.Format.TheVariants.{Sd2}
 use Rattle.acyclic.specs.declared.calls.Call.TheVariants as call
 use Rattle.content.specs.declared.fields.Content.TheVariants as content
-use Rattle.service.specs.Writing.{telegramFor}
+use Rattle.service.specs.Writing.{telegram_for}
 use Rattle.controller_state.specs.Templates.{Holds, holds, none_left, one_left}
-use Rattle.controller.proofs.Written.{may, write-may}
+use Rattle.controller.proofs.Written.{may, write_may}
 use borrow.Author.Rules.{rules}
 use Rattle.controller.proofs.requests.put_write.Statement.{statement}
 use Rattle.controller.proofs.requests.put_write.Tie as tie
@@ -53,14 +53,14 @@ put-body-requires c κs =
     let body = p.part.ensures ∙ h.part in (
       omega (arith, ap length body, h.short),
       may Sd2 s.printer s.controller _ (content.Dpv1Call (call.Write 1 _)) _
-          (write-may s.printer s.controller b.pre.0.printer b.pre.0.controller b.args.fcb f.counted-code.ensures h.slot body h.nonempty h.short),
+          (write_may s.printer s.controller b.pre.0.printer b.pre.0.controller b.args.fcb f.counted-code.ensures h.slot body h.nonempty h.short),
     )
 
 same_length : tie.Need-same-length
 same_length c = search rules
 
 returns-2 : tie.Need-returns-2
-unfolding telegramFor
+unfolding telegram_for
 returns-2 c =
     let w = c.before.before in
     let p = w.before.before in

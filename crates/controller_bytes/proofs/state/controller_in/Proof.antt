@@ -1,6 +1,6 @@
 -- `controller_bytes::state::controller_in` meets its contract.
 use borrow.Author.Tests.{ne_eqb}
-use Rattle.controller_bytes.specs.State.{controllerIn}
+use Rattle.controller_bytes.specs.State.{controller_in}
 use borrow.Author.Rules.{rules}
 use Rattle.controller_bytes.proofs.state.controller_in.Statement.{statement}
 use Rattle.controller_bytes.proofs.state.controller_in.Tie as tie
@@ -36,23 +36,23 @@ asking-by-requires-2 : tie.Need-asking-by-requires-2
 asking-by-requires-2 c κs = search rules
 
 returns : tie.Need-returns
-unfolding controllerIn
+unfolding controller_in
 returns c = simp c.match.keys1
 
 returns-2 : tie.Need-returns-2
-unfolding controllerIn
+unfolding controller_in
 returns-2 c = simp c.match.keys2
 
 returns-3 : tie.Need-returns-3
-unfolding controllerIn
+unfolding controller_in
 returns-3 c = simp c.before.before.before.before.match.keys3 c.asking-by.ensures
 
 returns-4 : tie.Need-returns-4
-unfolding controllerIn
+unfolding controller_in
 returns-4 c = simp c.before.before.before.before.before.match.keys4 c.asking-by2.ensures
 
 returns-5 : tie.Need-returns-5
-unfolding controllerIn
+unfolding controller_in
 returns-5 c = let r = c.match.rest in simp (ne_eqb _ _ r.1, ne_eqb _ _ r.0.1, ne_eqb _ _ r.0.0.1, ne_eqb _ _ r.0.0.0.1)
 
 pub controller-in-spec : {M : Type 1} → statement M

@@ -2,13 +2,13 @@
 use mathlib.Core.Path.{◌≡◌, sym, ◌∙◌}
 use mathlib.Core.Bool.{true}
 use borrow.Author.Tests.{not-true, not-false, eq-eqb, ne_eqb}
-use Rattle.protocol.specs.Controller.{isSd2}
+use Rattle.protocol.specs.Controller.{is_sd2}
 use borrow.Author.Rules.{rules}
 use Rattle.controller_input.proofs.origin.is_printers.Statement.{statement}
 use Rattle.controller_input.proofs.origin.is_printers.Tie as tie
 
 -- behind the first test
-sd2 : (c : tie.Else1) → isSd2 c.before.before.args.format ≡ true
+sd2 : (c : tie.Else1) → is_sd2 c.before.before.args.format ≡ true
 sd2 c = sym c.before.is-sd2.ensures ∙ not-false _ c.if1.false
 
 is-sd2-requires : tie.Need-is-sd2-requires

@@ -4,7 +4,7 @@ use lib.ListN.{length}
 use Rattle.configuration.specs.Reading.{read_of}
 use Rattle.content.specs.Reading.{answer_of}
 use Rattle.content.specs.declared.fields.Content.TheVariants as content
-use Rattle.controller_input.proofs.Routed.{plain_other, configuration-other}
+use Rattle.controller_input.proofs.Routed.{plain_other, configuration_other}
 use borrow.Author.Rules.{rules}
 use Rattle.controller_input.proofs.replies.answered.Statement.{statement}
 use Rattle.controller_input.proofs.replies.answered.Tie as tie
@@ -53,7 +53,7 @@ returns-5 : tie.Need-returns-5
 unfolding answer_of
 returns-5 c =
     let u = c.before.before.before.args.user.now in
-    rw c.enum-told5.given.1 (sym (configuration-other content.GetCfg (read_of u) (length u) refl))
+    rw c.enum-told5.given.1 (sym (configuration_other content.GetCfg (read_of u) (length u) refl))
 
 returns-6 : tie.Need-returns-6
 unfolding answer_of

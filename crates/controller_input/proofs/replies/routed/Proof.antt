@@ -1,18 +1,18 @@
 -- `controller_input::replies::routed` meets its contract: by the route.
 use mathlib.Core.Path.{◌≡◌, sym, ap, ◌∙◌}
-use Rattle.access.specs.Route.{routeOf}
-use Rattle.access.specs.Laws.{class-route}
+use Rattle.access.specs.Route.{route_of}
+use Rattle.access.specs.Laws.{class_route}
 use Rattle.access.specs.declared.route.Route.{Route}
-use Rattle.controller_input.specs.Meaning.{gotOfRoute}
+use Rattle.controller_input.specs.Meaning.{got_of_route}
 use borrow.Author.Rules.{rules}
 use Rattle.controller_input.proofs.replies.routed.Statement.{statement}
 use Rattle.controller_input.proofs.replies.routed.Tie as tie
 
 -- the route is the header's
-told : (c : tie.After-route-by) → routeOf c.before.before.args.header ≡ c.route-by.result
+told : (c : tie.After-route-by) → route_of c.before.before.args.header ≡ c.route_by_lem.result
 told c =
     let b = c.before.before in
-    sym (c.route-by.ensures ∙ class-route b.args.header b.requires)
+    sym (c.route_by_lem.ensures ∙ class_route b.args.header b.requires)
 
 route-by-requires : tie.Need-route-by-requires
 route-by-requires c κs = search rules
@@ -39,7 +39,7 @@ returns-3 : tie.Need-returns-3
 returns-3 c =
     let k = c.before.before in
     let r = k.before.before in
-    c.answered.ensures ∙ sym (ap (λ (x : Route). gotOfRoute x r.before.before.args.user.now) (told r ∙ k.route.given.1))
+    c.answered.ensures ∙ sym (ap (λ (x : Route). got_of_route x r.before.before.args.user.now) (told r ∙ k.route.given.1))
 
 pub routed-spec : {M : Type 1} → statement M
 routed-spec =

@@ -1,5 +1,5 @@
 -- `controller_moves::moves::after_job` meets its contract: each job has its line.
-use Rattle.book.specs.Contents.{templatesOf}
+use Rattle.book.specs.Contents.{templates_of}
 use borrow.Author.Rules.{rules}
 use Rattle.controller_moves.proofs.moves.after_job.Statement.{statement}
 use Rattle.controller_moves.proofs.moves.after_job.Tie as tie
@@ -19,7 +19,7 @@ after-poll-requires c κs = search rules
 returns : tie.Need-returns
 returns c =
     let b = c.before.before.before.before in
-    rw c.before.enum_told.given.1 (c.after_write.ensures (templatesOf b.args.book.now) b.requires.1.most)
+    rw c.before.enum_told.given.1 (c.after_write.ensures (templates_of b.args.book.now) b.requires.1.most)
 
 returns-2 : tie.Need-returns-2
 returns-2 c = rw c.before.before.job.given.1 c.after-poll.ensures

@@ -1,6 +1,6 @@
 -- `controller_moves::moves::after_result` meets its contract: each reply has its line.
 use mathlib.Core.Path.{refl}
-use Rattle.book.specs.Contents.{templatesOf}
+use Rattle.book.specs.Contents.{templates_of}
 use borrow.Author.Rules.{rules}
 use Rattle.controller_moves.proofs.moves.after_result.Statement.{statement}
 use Rattle.controller_moves.proofs.moves.after_result.Tie as tie
@@ -29,7 +29,7 @@ enum-told-3 c = search rules
 returns : tie.Need-returns
 returns c repeats =
     let b = c.before.before.before.before in
-    rw c.before.enum_told.given.1 (c.poll-again.ensures (templatesOf b.args.book.now) b.requires.some b.requires.most)
+    rw c.before.enum_told.given.1 (c.poll-again.ensures (templates_of b.args.book.now) b.requires.some b.requires.most)
 
 returns-2 : tie.Need-returns-2
 returns-2 c repeats = rw c.enum-told2.given.1 (record { move = refl; counted = tt })

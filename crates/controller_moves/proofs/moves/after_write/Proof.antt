@@ -6,7 +6,7 @@ use native.Mathlib.Omega.{arith}
 use lib.ListN.{drop}
 use Rattle.protocol.specs.declared.controller.Job.TheVariants as job
 use Rattle.controller_input.specs.Meaning.{exchanged}
-use Rattle.controller_moves.proofs.Following.{polls, some-repeats, repeated, unanswered, strange}
+use Rattle.controller_moves.proofs.Following.{polls, some_repeats, repeated, unanswered, strange}
 use borrow.Author.Rules.{rules}
 use Rattle.controller_moves.proofs.moves.after_write.Statement.{statement}
 use Rattle.controller_moves.proofs.moves.after_write.Tie as tie
@@ -15,7 +15,7 @@ may-repeat-requires : tie.Need-may-repeat-requires
 may-repeat-requires c κs = search rules
 
 sub-repeats : tie.Need-overflow-sub-repeats
-sub-repeats c = let a = c.before.before.args in omega (arith, some-repeats (exchanged a.exchange) a.repeats (sym c.before.may-repeat.ensures ∙ c.if1.true))
+sub-repeats c = let a = c.before.before.args in omega (arith, some_repeats (exchanged a.exchange) a.repeats (sym c.before.may-repeat.ensures ∙ c.if1.true))
 
 returns : tie.Need-returns
 returns c book most =

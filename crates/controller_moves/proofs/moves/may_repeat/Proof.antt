@@ -1,5 +1,5 @@
 -- `controller_moves::moves::may_repeat` meets its contract: each exchange has its line.
-use Rattle.controller_moves.proofs.Following.{is-reply}
+use Rattle.controller_moves.proofs.Following.{is_reply}
 use borrow.Author.Rules.{rules}
 use Rattle.controller_moves.proofs.moves.may_repeat.Statement.{statement}
 use Rattle.controller_moves.proofs.moves.may_repeat.Tie as tie
@@ -11,7 +11,7 @@ enum-told-2 : tie.Need-enum-told-2
 enum-told-2 c = search rules
 
 returns : tie.Need-returns
-returns c = rw (c.enum_told.given.1, is-reply c.enum_told.given.0.0)
+returns c = rw (c.enum_told.given.1, is_reply c.enum_told.given.0.0)
 
 returns-2 : tie.Need-returns-2
 returns-2 c = simp c.enum-told2.given.1

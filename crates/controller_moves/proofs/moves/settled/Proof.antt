@@ -5,8 +5,8 @@ use borrow.Author.Tests.{eq-eqb, ne_eqb}
 use mathlib.Core.List.{List}
 use Prim.Native.Nat.{ℕ}
 use mathlib.Core.Bool.{not}
-use Rattle.book.specs.Contents.{templatesOf}
-use Rattle.book.specs.Laws.{templates-in-order}
+use Rattle.book.specs.Contents.{templates_of}
+use Rattle.book.specs.Laws.{templates_in_order}
 use Rattle.controller_state.specs.Templates.{Holds, holds, none_left, one_left}
 use Rattle.controller_moves.proofs.Following.{behind}
 use borrow.Author.Rules.{rules}
@@ -16,13 +16,13 @@ use Rattle.controller_moves.proofs.moves.settled.Tie as tie
 abbrev entry : tie.After-known-told → tie.Start
 entry c = c.before.before.before.before.before
 
-abbrev bookAt : tie.Start → List ℕ
-bookAt b = b.args.book.now
+abbrev book_at : tie.Start → List ℕ
+book_at b = b.args.book.now
 
 held : (c : tie.After-known-told) →
     let b = entry c in
     let f = c.before.found.given.0 in
-    Holds (bookAt b) b.args.template b.pre.0 b.pre.1 f.0 f.1.0 f.1.1.0
+    Holds (book_at b) b.args.template b.pre.0 b.pre.1 f.0 f.1.0 f.1.1.0
 held c = holds _ _ (entry c).requires.0 (entry c).requires.1 c.before.before.before.listed.ensures c.before.found.given.1
 
 listed-requires : tie.Need-listed-requires
@@ -62,7 +62,7 @@ add-t17 : tie.Need-overflow-add-t17
 add-t17 c =
     let k = c.before.before.before in
     let b = entry k in
-    omega (arith, (templates-in-order (bookAt b) b.pre.0).3, (held k).most)
+    omega (arith, (templates_in_order (book_at b) b.pre.0).3, (held k).most)
 
 returns-5 : tie.Need-returns-5
 returns-5 c =
@@ -71,7 +71,7 @@ returns-5 c =
     let a = b.args in
     let h = held k in
     rw (one_left h, eq-eqb _ _ c.before.before.if1.false, eq-eqb _ _ (c.before.if2.false ∙ h.slot), eq-eqb _ _ (c.if3.false ∙ h.long))
-    (record { move = behind a.settings a.template (not a.fcb) a.settings.repeats (templatesOf (bookAt b)); counted = omega arith })
+    (record { move = behind a.settings a.template (not a.fcb) a.settings.repeats (templates_of (book_at b)); counted = omega arith })
 
 pub settled-spec : {M : Type 1} → statement M
 settled-spec = tie.close (tie.spec listed-requires enum-known-found enum_told returns returns-2 returns-3 returns-4 add-t17 returns-5)

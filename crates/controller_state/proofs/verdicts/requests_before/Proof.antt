@@ -4,7 +4,7 @@ use mathlib.Core.Bool.{false}
 use Prim.Native.Nat.{ℕ, ◌≤◌}
 use native.Mathlib.Omega.{arith}
 use borrow.Author.Tests.{ltb-true, not-false}
-use Rattle.protocol.specs.Controller.{tooManyPolls}
+use Rattle.protocol.specs.Controller.{too_many_polls}
 use Rattle.protocol.specs.declared.controller.Settings.{Settings}
 use Rattle.protocol.specs.declared.controller.Job.{Job}
 use Rattle.protocol.specs.declared.controller.Job.TheVariants.{Poll}
@@ -13,7 +13,7 @@ use Rattle.controller_state.proofs.verdicts.requests_before.Statement.{statement
 use Rattle.controller_state.proofs.verdicts.requests_before.Tie as tie
 
 -- the polls left are some of those set
-within : (c : Settings) {j : Job} {left : ℕ} → j ≡ Poll left → tooManyPolls c j ≡ false → left ≤ c.polls
+within : (c : Settings) {j : Job} {left : ℕ} → j ≡ Poll left → too_many_polls c j ≡ false → left ≤ c.polls
 within c {j} {left} e h = omega (arith, ltb-true left c.polls (not-false _ (rw e at h)))
 
 enum_told : tie.Need-enum-told

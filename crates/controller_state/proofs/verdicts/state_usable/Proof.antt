@@ -1,5 +1,5 @@
 -- `controller_state::verdicts::state_usable` meets its contract: each state has its line.
-use Rattle.protocol.specs.Controller.{stateVerdict}
+use Rattle.protocol.specs.Controller.{state_verdict}
 use borrow.Author.Rules.{rules}
 use Rattle.controller_state.proofs.verdicts.state_usable.Statement.{statement}
 use Rattle.controller_state.proofs.verdicts.state_usable.Tie as tie
@@ -17,11 +17,11 @@ job-usable-requires : tie.Need-job-usable-requires
 job-usable-requires c κs = search rules
 
 returns : tie.Need-returns
-unfolding stateVerdict
+unfolding state_verdict
 returns c = rw c.enum_told.given.1
 
 returns-2 : tie.Need-returns-2
-unfolding stateVerdict
+unfolding state_verdict
 returns-2 c = rw c.enum-told2.given.1
 
 returns-3 : tie.Need-returns-3

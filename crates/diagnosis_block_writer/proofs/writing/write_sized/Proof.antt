@@ -7,7 +7,7 @@ use lib.ListN.{length}
 use borrow.Author.Rules.{rules}
 use borrow.Author.Tests.{lt-ltb, le-ltb}
 use Rattle.octets.specs.Front.{fine, refused, too_small, stored}
-use Rattle.diagnosis.specs.Writing.{sizedVerdict}
+use Rattle.diagnosis.specs.Writing.{sized_verdict}
 use Rattle.diagnosis_block_writer.proofs.writing.write_sized.Statement.{statement}
 use Rattle.diagnosis_block_writer.proofs.writing.write_sized.Tie as tie
 
@@ -15,21 +15,21 @@ use Rattle.diagnosis_block_writer.proofs.writing.write_sized.Tie as tie
 abbrev bytes_at : tie.Start → List ℕ
 bytes_at b = (b.args.kind + (length b.args.bytes.now + 1)) ∷ b.args.bytes.now
 
-good : (c : tie.Else2) → sizedVerdict c.before.before.before.before.args.bytes.now ≡ fine
-unfolding sizedVerdict
+good : (c : tie.Else2) → sized_verdict c.before.before.before.before.args.bytes.now ≡ fine
+unfolding sized_verdict
 good c = simp (le-ltb _ _ c.before.if1.false, le-ltb _ _ c.if2.false)
 
 add-len : tie.Need-overflow-add-len
 add-len c = search rules
 
 returns : tie.Need-returns
-unfolding sizedVerdict
+unfolding sized_verdict
 returns c =
     let b = c.before.before.before in
     simp (lt-ltb _ _ c.if1.true) (refused 23 (bytes_at b) b.args.out.now)
 
 returns-2 : tie.Need-returns-2
-unfolding sizedVerdict
+unfolding sized_verdict
 returns-2 c =
     let b = c.before.before.before.before in
     simp (le-ltb _ _ c.before.if1.false, lt-ltb _ _ c.if2.true) (refused 21 (bytes_at b) b.args.out.now)

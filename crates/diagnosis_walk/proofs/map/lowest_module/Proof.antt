@@ -8,14 +8,14 @@ use lib.Count.{count_trailing_zeros, trailing_le, trailing_of_zero}
 use lib.Dec.{eqb}
 use borrow.Author.Tests.{eq-eqb, ne_eqb}
 use Rattle.octets.specs.Choice.{pick}
-use Rattle.diagnosis.specs.Map.{reports, lowestFrom, lowestOf}
+use Rattle.diagnosis.specs.Map.{reports, lowest_from, lowest_of}
 use Rattle.diagnosis.specs.declared.map.Lowest.TheVariants.{Module}
-use Rattle.diagnosis_walk.proofs.Bits.{lowest-byte}
+use Rattle.diagnosis_walk.proofs.Bits.{lowest_byte}
 use Rattle.diagnosis_walk.proofs.map.lowest_module.Statement.{statement}
 use Rattle.diagnosis_walk.proofs.map.lowest_module.Tie as tie
 
 abbrev invariant-loop : tie.invariant-loop
-invariant-loop map zeros₀ i₀ zeros i = (i ≤ length map) × (zeros ≡ 8 * i) × (lowestFrom (reports map) (8 * i) (8 * (length map - i)) ≡ lowestOf map)
+invariant-loop map zeros₀ i₀ zeros i = (i ≤ length map) × (zeros ≡ 8 * i) × (lowest_from (reports map) (8 * i) (8 * (length map - i)) ≡ lowest_of map)
 
 abbrev decreases-loop : tie.decreases-loop
 decreases-loop map zeros₀ i₀ zeros i = length map - i
@@ -31,12 +31,12 @@ found :
     (c : tie.After-shared-slice-known invariant-loop decreases-loop) →
     let map = c.before.before.before.args.map.now in
     let i = c.before.before.loop.i in
-    lowestOf map
-    ≡ pick (eqb (get_or map i 0) 0) (lowestFrom (reports map) (8 * (i + 1)) (8 * (length map - (i + 1)))) (Module (8 * i + count_trailing_zeros 8 (get_or map i 0)))
+    lowest_of map
+    ≡ pick (eqb (get_or map i 0) 0) (lowest_from (reports map) (8 * (i + 1)) (8 * (length map - (i + 1)))) (Module (8 * i + count_trailing_zeros 8 (get_or map i 0)))
 found c =
     let map = c.before.before.before.args.map.now in
     let i = c.before.before.loop.i in
-    sym c.before.before.loop.invariant.2 ∙ lowest-byte map i c.before.loop-test.true (c.shared-slice-known.given i).fits
+    sym c.before.before.loop.invariant.2 ∙ lowest_byte map i c.before.loop-test.true (c.shared-slice-known.given i).fits
 
 loop-holds : tie.Need-loop-init invariant-loop decreases-loop
 loop-holds c =
@@ -71,7 +71,7 @@ loop-again c =
     (omega arith, omega arith, sym (rw (eq-eqb _ 0 c.if1.false) at e))
 
 returns-2 : tie.Need-returns-2 invariant-loop decreases-loop
-unfolding lowestFrom
+unfolding lowest_from
 returns-2 c =
     let map = c.before.before.args.map.now in
     let e : 8 * (length map - c.before.loop.i) ≡ 0 = omega arith in

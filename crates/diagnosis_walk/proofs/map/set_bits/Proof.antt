@@ -5,13 +5,13 @@ use native.Mathlib.Omega.{arith}
 use native.Mathlib.Nat.{zero-add}
 use lib.ListN.{length, get_or}
 use lib.Count.{ones, ones-le}
-use Rattle.diagnosis.specs.Map.{reports, countFrom, setOf}
-use Rattle.diagnosis_walk.proofs.Bits.{count-byte}
+use Rattle.diagnosis.specs.Map.{reports, count_from, set_of}
+use Rattle.diagnosis_walk.proofs.Bits.{count_byte}
 use Rattle.diagnosis_walk.proofs.map.set_bits.Statement.{statement}
 use Rattle.diagnosis_walk.proofs.map.set_bits.Tie as tie
 
 abbrev invariant-loop : tie.invariant-loop
-invariant-loop map set₀ i₀ set i = (i ≤ length map) × (set ≤ 8 * i) × (set + countFrom (reports map) (8 * i) (8 * (length map - i)) ≡ setOf map)
+invariant-loop map set₀ i₀ set i = (i ≤ length map) × (set ≤ 8 * i) × (set + count_from (reports map) (8 * i) (8 * (length map - i)) ≡ set_of map)
 
 abbrev decreases-loop : tie.decreases-loop
 decreases-loop map set₀ i₀ set i = length map - i
@@ -44,17 +44,17 @@ loop-again : tie.Need-loop-preserved invariant-loop decreases-loop
 loop-again c =
     let map = c.before.before.before.args.map.now in
     let i = c.before.before.loop.i in
-    omega (arith, few c, count-byte map i c.before.loop-test.true (c.shared-slice-known.given i).fits)
+    omega (arith, few c, count_byte map i c.before.loop-test.true (c.shared-slice-known.given i).fits)
 
 cast-result : tie.Need-overflow-cast-result invariant-loop decreases-loop
 cast-result c = omega (arith, c.before.before.requires)
 
 returns : tie.Need-returns invariant-loop decreases-loop
-unfolding countFrom
+unfolding count_from
 returns c =
     let map = c.before.before.args.map.now in
     let e : 8 * (length map - c.before.loop.i) ≡ 0 = omega arith in
-    let z : countFrom (reports map) (8 * c.before.loop.i) (8 * (length map - c.before.loop.i)) ≡ 0 = rw e in
+    let z : count_from (reports map) (8 * c.before.loop.i) (8 * (length map - c.before.loop.i)) ≡ 0 = rw e in
     omega arith
 
 pub set-bits-spec : {M : Type 1} → statement M

@@ -7,15 +7,15 @@ use lib.ListN.{take, length-set}
 use lib.Seq.{sets}
 use borrow.Author.Rules.{rules}
 use Rattle.octets.specs.Number.{bytes_of}
-use Rattle.octets.specs.Front.{AtFront, at_front, stores, rest-fits, both}
-use Rattle.diagnosis.specs.Writing.{headerBytes}
+use Rattle.octets.specs.Front.{AtFront, at_front, stores, rest_fits, both}
+use Rattle.diagnosis.specs.Writing.{header_bytes}
 use Rattle.diagnosis.specs.declared.reading.Header.{Header}
 use Rattle.diagnosis_writer.proofs.writing.put_header.Statement.{statement}
 use Rattle.diagnosis_writer.proofs.writing.put_header.Tie as tie
 
 -- what stands before the ident number
 abbrev front : Header → List ℕ
-front h = take 4 (headerBytes h)
+front h = take 4 (header_bytes h)
 
 stored : (c : tie.Start) → AtFront (front c.args.header) c.args.out.now (sets c.args.out.now 0 (front c.args.header)) 4
 stored c = stores (front c.args.header) c.args.out.now (omega arith)
@@ -48,7 +48,7 @@ returns : tie.Need-returns
 returns c =
     let s = c.before.before.store16.ensures in
     let b = c.before.before.before.before.before in
-    both (stored b) (at_front s.0 s.1 (rest-fits (stored b) (bytes_of 2 b.args.header.ident) b.requires))
+    both (stored b) (at_front s.0 s.1 (rest_fits (stored b) (bytes_of 2 b.args.header.ident) b.requires))
 
 add-result : tie.Need-overflow-add-result
 add-result c = omega (arith, (returns c).counted)

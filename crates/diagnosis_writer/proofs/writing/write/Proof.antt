@@ -5,19 +5,19 @@ use Prim.Native.Nat.{ℕ}
 use native.Mathlib.Omega.{arith}
 use borrow.Author.Rules.{rules}
 use Rattle.octets.specs.Front.{Verdict, fine, refused, too_small, stored}
-use Rattle.diagnosis.specs.Writing.{diagnosisBytes, verdictBy, verdictOf}
+use Rattle.diagnosis.specs.Writing.{diagnosis_bytes, verdict_by, verdict_of}
 use Rattle.diagnosis_writer.proofs.writing.write.Statement.{statement}
 use Rattle.diagnosis_writer.proofs.writing.write.Tie as tie
 
 -- of what is to be written: its bytes and the verdict
 abbrev bytes_at : tie.Start → List ℕ
-bytes_at b = diagnosisBytes b.args.header b.args.blocks.now
+bytes_at b = diagnosis_bytes b.args.header b.args.blocks.now
 
-abbrev verdictAt : tie.Start → Verdict
-verdictAt b = verdictOf b.args.header b.args.blocks.now
+abbrev verdict_at : tie.Start → Verdict
+verdict_at b = verdict_of b.args.header b.args.blocks.now
 
-good : (c : tie.After-enum-told) → verdictAt c.before.before.before.before.before ≡ fine
-good c = ap verdictBy (sym c.before.before.blocks-behind.ensures ∙ c.enum_told.given.1)
+good : (c : tie.After-enum-told) → verdict_at c.before.before.before.before.before ≡ fine
+good c = ap verdict_by (sym c.before.before.blocks-behind.ensures ∙ c.enum_told.given.1)
 
 blocks-behind-requires : tie.Need-blocks-behind-requires
 blocks-behind-requires c κs = search rules
@@ -44,7 +44,7 @@ returns-2 c =
     let f = c.before in
     let b = f.before.before.before.before.before in
     rw
-    (ap verdictBy (sym f.before.before.blocks-behind.ensures ∙ f.count.given.1))
+    (ap verdict_by (sym f.before.before.blocks-behind.ensures ∙ f.count.given.1))
     (refused f.count.given.0.0.number (bytes_at b) b.args.out.now)
 
 same_length : tie.Need-same-length

@@ -10,16 +10,16 @@ use lib.Seq.{drop-cons, drop-length}
 use borrow.Author.Tests.{lt-ltb, le-ltb}
 use Rattle.octets.specs.Choice.{pick}
 use Rattle.octets.specs.Front.{fault}
-use Rattle.protocol.specs.Download.{lineVerdict}
+use Rattle.protocol.specs.Download.{line_verdict}
 use Rattle.download.proofs.check.line_check.Statement.{statement}
 use Rattle.download.proofs.check.line_check.Tie as tie
 
-first_of : (l : List ℕ) (i : ℕ) → i < length l → lineVerdict (drop i l) ≡ pick (ltb 2 (get_or l i 0)) (fault 12) (lineVerdict (drop (i + 1) l))
-unfolding lineVerdict
+first_of : (l : List ℕ) (i : ℕ) → i < length l → line_verdict (drop i l) ≡ pick (ltb 2 (get_or l i 0)) (fault 12) (line_verdict (drop (i + 1) l))
+unfolding line_verdict
 first_of l i h = rw (add-one, drop-cons l i 0)
 
 abbrev invariant-loop : tie.invariant-loop
-invariant-loop line i₀ i = (i ≤ length line) × (lineVerdict (drop i line) ≡ lineVerdict line)
+invariant-loop line i₀ i = (i ≤ length line) × (line_verdict (drop i line) ≡ line_verdict line)
 
 abbrev decreases-loop : tie.decreases-loop
 decreases-loop line i₀ i = length line - i
@@ -49,7 +49,7 @@ loop-again c =
     (omega arith, sym (first_of n.before.before.args.line.now l.i n.loop-test.true ∙ rw (le-ltb 2 (get_or n.before.before.args.line.now l.i 0) (omega arith))) ∙ l.invariant.1)
 
 returns-2 : tie.Need-returns-2 invariant-loop decreases-loop
-unfolding lineVerdict
+unfolding line_verdict
 returns-2 c =
     let a = c.before.before.args.line.now in
     let e : c.before.loop.i ≡ length a = omega arith in

@@ -1,9 +1,9 @@
 -- `download::running::run` meets its contract: what is refused changes nothing.
 use mathlib.Core.Path.{sym, ap, ◌∙◌}
 use borrow.Author.Rules.{rules}
-use Rattle.octets.specs.Fixed.{fault-fine}
-use Rattle.protocol.specs.Check.{verdictIn}
-use Rattle.protocol.specs.Download.{downloadOf}
+use Rattle.octets.specs.Fixed.{fault_fine}
+use Rattle.protocol.specs.Check.{verdict_in}
+use Rattle.protocol.specs.Download.{download_of}
 use Rattle.protocol.specs.Printer.{lending}
 use Rattle.protocol.specs.Theorem.{downloads}
 use Rattle.download.proofs.running.run.Statement.{statement}
@@ -25,10 +25,10 @@ same-length-2 : tie.Need-same-length-2
 same-length-2 c = search rules
 
 returns : tie.Need-returns
-unfolding downloadOf
+unfolding download_of
 returns c =
-    let bad = sym c.before.before.before.usable.ensures ∙ ap verdictIn c.before.verdict.given.1 in
-    (rw bad, λ v. absurd (fault-fine (sym bad ∙ v)))
+    let bad = sym c.before.before.before.usable.ensures ∙ ap verdict_in c.before.verdict.given.1 in
+    (rw bad, λ v. absurd (fault_fine (sym bad ∙ v)))
 
 enum_told : tie.Need-enum-told
 enum_told c = search rules
@@ -36,7 +36,7 @@ enum_told c = search rules
 until-ended-requires : tie.Need-until-ended-requires
 until-ended-requires c κs =
     let t = c.before.before.before.before in
-    sym t.before.before.usable.ensures ∙ ap verdictIn t.enum_told.given.1
+    sym t.before.before.usable.ensures ∙ ap verdict_in t.enum_told.given.1
 
 same-length-3 : tie.Need-same-length-3
 same-length-3 c = search rules

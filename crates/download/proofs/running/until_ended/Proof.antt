@@ -8,15 +8,15 @@ use lib.ListN.{length, take}
 use lib.Seq.{length-take-le}
 use borrow.Author.Rules.{rules}
 use Rattle.protocol.specs.Printer.{lending}
-use Rattle.protocol.specs.Download.{bound, given, passagesOf}
+use Rattle.protocol.specs.Download.{bound, given, passages_of}
 use Rattle.protocol.specs.Lemmas.Accepted.{Taken, taken}
-use Rattle.download.proofs.Present.{Due, Present, bound-small, begins, steps-so, more_left, hears-it, goes_on, ended_so, not-refused-now, reply-room, request-room}
+use Rattle.download.proofs.Present.{Due, Present, bound_small, begins, steps_so, more_left, hears_it, goes_on, ended_so, not_refused_now, reply_room, request_room}
 use Rattle.download.proofs.running.until_ended.Statement.{statement}
 use Rattle.download.proofs.running.until_ended.Tie as tie
 
 abbrev invariant-loop : tie.invariant-loop
 invariant-loop settings book line not_yet diagnosis lengths₀ bodies₀ reply₀ request₀ sent₀ now₀ lengths bodies reply request sent now =
-    Due (given settings book not_yet diagnosis) (passagesOf line) (lending now₀.printer lengths₀ bodies₀ reply₀) request₀ sent now.controller
+    Due (given settings book not_yet diagnosis) (passages_of line) (lending now₀.printer lengths₀ bodies₀ reply₀) request₀ sent now.controller
     (take now.back reply) (lending now.printer lengths bodies reply) request
     × (now.back ≤ length reply)
     × (length reply ≡ length reply₀)
@@ -43,24 +43,24 @@ turn c = c.before.before.before.before.before
 abbrev start : tie.After-step invariant-loop decreases-loop → tie.Start invariant-loop decreases-loop
 start c = entry (turn c)
 
-abbrev notYet : tie.After-step invariant-loop decreases-loop → List ℕ
-notYet c = (start c).args.not_yet.now
+abbrev not_yet : tie.After-step invariant-loop decreases-loop → List ℕ
+not_yet c = (start c).args.not_yet.now
 
 -- the present, after the step
 present : (c : tie.After-step invariant-loop decreases-loop) →
     let a = (start c).args in
     let l = (turn c).loop in
-    Present (given a.settings a.book.now a.not_yet.now a.diagnosis.now) (passagesOf a.line.now)
+    Present (given a.settings a.book.now a.not_yet.now a.diagnosis.now) (passages_of a.line.now)
     (lending a.printer a.lengths.now a.bodies.now a.reply.now) a.request.now l.sent c.step.result
     (lending l.now.printer l.lengths l.bodies l.reply) c.step.new.1.1.1.1.0
-present c = steps-so (notYet c) (accepted (start c)) (turn c).loop.invariant.0 c.step.ensures
+present c = steps_so (not_yet c) (accepted (start c)) (turn c).loop.invariant.0 c.step.ensures
 
 -- of a sending: the step whose request it takes, and that step's action
 abbrev step_of : tie.After-send invariant-loop decreases-loop → tie.After-step invariant-loop decreases-loop
 step_of c = c.before.before.before.before.before.before.before.before.before.before.before
 
-abbrev actionOf : tie.After-send invariant-loop decreases-loop → tie.After-action3 invariant-loop decreases-loop
-actionOf c = c.before.before.before.before.before.before.before
+abbrev action_of : tie.After-send invariant-loop decreases-loop → tie.After-action3 invariant-loop decreases-loop
+action_of c = c.before.before.before.before.before.before.before
 
 loop-holds : tie.Need-loop-init invariant-loop decreases-loop
 loop-holds c =
@@ -93,7 +93,7 @@ same-length-2 c = let s = c.before.before.before.before.before in omega (arith, 
 returns : tie.Need-returns invariant-loop decreases-loop
 returns c =
     let s = c.before.before.before.before.before in
-    ended_so (notYet s) (accepted (start s)) c.before.action.given.1 (present s)
+    ended_so (not_yet s) (accepted (start s)) c.before.action.given.1 (present s)
 
 enum-known-action-2 : tie.Need-enum-known-action-2 invariant-loop decreases-loop
 enum-known-action-2 c = search rules
@@ -107,7 +107,7 @@ same-length-4 c = let s = c.before.before.before.before.before in omega (arith, 
 returns-2 : tie.Need-returns-2 invariant-loop decreases-loop
 returns-2 c =
     let s = c.before.before.before.before.before in
-    absurd (not-refused-now (notYet s) (accepted (start s)) c.before.action2.given.1 (present s))
+    absurd (not_refused_now (not_yet s) (accepted (start s)) c.before.action2.given.1 (present s))
 
 enum-known-action-3 : tie.Need-enum-known-action-3 invariant-loop decreases-loop
 enum-known-action-3 c = search rules
@@ -115,7 +115,7 @@ enum-known-action-3 c = search rules
 cast-at : tie.Need-overflow-cast-at invariant-loop decreases-loop
 cast-at c =
     let s = c.before.before.before.before.before in
-    omega (arith, bound-small (notYet s) (accepted (start s)), more_left (notYet s) (accepted (start s)) c.before.action3.given.1 (present s))
+    omega (arith, bound_small (not_yet s) (accepted (start s)), more_left (not_yet s) (accepted (start s)) c.before.action3.given.1 (present s))
 
 at-requires : tie.Need-at-requires invariant-loop decreases-loop
 at-requires c κs = search rules
@@ -126,13 +126,13 @@ cast-end-2 c = search rules
 slice-reshare-prefix-send : tie.Need-slice-reshare-prefix-send invariant-loop decreases-loop
 slice-reshare-prefix-send c =
     let s = c.before.before.before.before.before.before in
-    omega (arith, request-room (notYet s) (accepted (start s)) (present s))
+    omega (arith, request_room (not_yet s) (accepted (start s)) (present s))
 
 slice-aggregate-send : tie.Need-slice-aggregate-send invariant-loop decreases-loop
 slice-aggregate-send c =
     let k = c.before.before in
     let s = k.before.before.before.before.before in
-    let room = request-room (notYet s) (accepted (start s)) (present s) in
+    let room = request_room (not_yet s) (accepted (start s)) (present s) in
     sym (length-take-le k.before.action3.given.0.1.0 s.step.new.1.1.1.1.0 (omega (arith, room, k.known-told3.given)))
 
 send-requires : tie.Need-send-requires invariant-loop decreases-loop
@@ -151,7 +151,7 @@ returns-3 : tie.Need-returns-3 invariant-loop decreases-loop
 returns-3 c =
     let z = c.before.before.before.before.before in
     let s = step_of z in
-    absurd (hears-it (notYet s) (accepted (start s)) (actionOf z).action3.given.1 (present s) (rw z.before.before.before.before.before.at.ensures at z.send.ensures) c.before.reaction.given.1)
+    absurd (hears_it (not_yet s) (accepted (start s)) (action_of z).action3.given.1 (present s) (rw z.before.before.before.before.before.at.ensures at z.send.ensures) c.before.reaction.given.1)
 
 enum-known-reaction-2 : tie.Need-enum-known-reaction-2 invariant-loop decreases-loop
 enum-known-reaction-2 c = search rules
@@ -160,13 +160,13 @@ enum-known-reaction-2 c = search rules
 left : (c : tie.After-send invariant-loop decreases-loop) →
     let a = (start (step_of c)).args in
     (turn (step_of c)).loop.sent < bound (given a.settings a.book.now a.not_yet.now a.diagnosis.now)
-left c = let s = step_of c in more_left (notYet s) (accepted (start s)) (actionOf c).action3.given.1 (present s)
+left c = let s = step_of c in more_left (not_yet s) (accepted (start s)) (action_of c).action3.given.1 (present s)
 
 add-sent : tie.Need-overflow-add-sent invariant-loop decreases-loop
 add-sent c =
     let z = c.before.before.before.before.before in
     let s = step_of z in
-    omega (arith, bound-small (notYet s) (accepted (start s)), left z)
+    omega (arith, bound_small (not_yet s) (accepted (start s)), left z)
 
 loop-less : tie.Need-loop-smaller invariant-loop decreases-loop
 loop-less c = omega (arith, left c.before.before.before.before.before)
@@ -176,8 +176,8 @@ loop-again c =
     let z = c.before.before.before.before.before in
     let s = step_of z in
     let l = (turn s).loop in (
-      goes_on (notYet s) (accepted (start s)) (actionOf z).action3.given.1 (present s) (rw z.before.before.before.before.before.at.ensures at z.send.ensures) c.before.reaction2.given.1,
-      omega (arith, reply-room (notYet s) (accepted (start s)) (present s), z.send, c.known-told5.given),
+      goes_on (not_yet s) (accepted (start s)) (action_of z).action3.given.1 (present s) (rw z.before.before.before.before.before.at.ensures at z.send.ensures) c.before.reaction2.given.1,
+      omega (arith, reply_room (not_yet s) (accepted (start s)) (present s), z.send, c.known-told5.given),
       omega (arith, l.inv.2, z.send),
       omega (arith, l.inv.3, s.step),
     )

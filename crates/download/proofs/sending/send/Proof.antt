@@ -3,7 +3,7 @@ use mathlib.Core.Path.{ap}
 use native.Mathlib.Omega.{arith}
 use borrow.Author.Tests.{lt-ltb, le-ltb, eq-eqb, ne_eqb}
 use borrow.Author.Rules.{rules}
-use Rattle.download.specs.Sending.{unanswered, sentOf}
+use Rattle.download.specs.Sending.{unanswered, sent_of}
 use Rattle.download.proofs.sending.send.Statement.{statement}
 use Rattle.download.proofs.sending.send.Tie as tie
 
@@ -15,11 +15,11 @@ abbrev arrived : tie.After-step → tie.Else2
 arrived c = c.before.before.before.before.before.before
 
 returns : tie.Need-returns
-unfolding sentOf
+unfolding sent_of
 returns c = rw (lt-ltb 2 c.before.before.before.before.before.args.entry (omega arith))
 
 returns-2 : tie.Need-returns-2
-unfolding sentOf
+unfolding sent_of
 returns-2 c =
     let a = (entry c.before).args in
     rw (le-ltb 2 a.entry (omega arith), eq-eqb a.entry 1 (omega arith))
@@ -40,7 +40,7 @@ same_length : tie.Need-same-length
 same_length c = search rules
 
 returns-3 : tie.Need-returns-3
-unfolding sentOf
+unfolding sent_of
 returns-3 c =
     let s = c.before.before.before.before in
     let e = arrived s in
@@ -52,7 +52,7 @@ same-length-2 : tie.Need-same-length-2
 same-length-2 c = search rules
 
 returns-4 : tie.Need-returns-4
-unfolding sentOf
+unfolding sent_of
 returns-4 c =
     let s = c.before.before.before in
     let e = arrived s in

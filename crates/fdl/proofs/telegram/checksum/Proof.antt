@@ -6,7 +6,7 @@ use native.Mathlib.Numerals.{add-one}
 use native.Mathlib.Omega.{arith}
 use lib.ListN.{length, drop, get_or}
 use lib.Seq.{drop-cons, drop-length}
-use Rattle.fdl.specs.Telegram.{sum_of, checksumOf}
+use Rattle.fdl.specs.Telegram.{sum_of, checksum_of}
 use Rattle.fdl.proofs.telegram.checksum.Statement.{statement}
 use Rattle.fdl.proofs.telegram.checksum.Tie as tie
 
@@ -46,7 +46,7 @@ cast-result : tie.Need-overflow-cast-result invariant-loop decreases-loop
 cast-result c = omega arith
 
 returns : tie.Need-returns invariant-loop decreases-loop
-unfolding checksumOf
+unfolding checksum_of
 returns c =
     let l = c.before.before.args.part.now in
     let e : c.before.loop.i ≡ length l = omega arith in

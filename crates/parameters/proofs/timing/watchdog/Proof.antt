@@ -4,16 +4,16 @@ use native.Mathlib.Nat.{mul-le-mul}
 use native.Mathlib.Omega.{arith}
 use lib.Dec.{eqb}
 use borrow.Author.Rules.{rules}
-use Rattle.octets.specs.Choice.{by-pick}
+use Rattle.octets.specs.Choice.{by_pick}
 use Rattle.parameters.specs.Timing.{base_of}
 use Rattle.parameters.specs.declared.fields.Extension.{Extension}
 use Rattle.parameters.specs.declared.fields.Extension.TheVariants.{Dpv0, Dpv1}
 use Rattle.parameters.proofs.timing.watchdog.Statement.{statement}
 use Rattle.parameters.proofs.timing.watchdog.Tie as tie
 
-base-small : (e : Extension) → base_of e ≤ 10
-base-small Dpv0 = omega arith
-base-small (Dpv1 a b c) = by-pick (λ (n : ℕ). n ≤ 10) (eqb (a / 4 % 2) 1) {x = 1} {y = 10} (λ _. omega arith) (λ _. omega arith)
+base_small : (e : Extension) → base_of e ≤ 10
+base_small Dpv0 = omega arith
+base_small (Dpv1 a b c) = by_pick (λ (n : ℕ). n ≤ 10) (eqb (a / 4 % 2) 1) {x = 1} {y = 10} (λ _. omega arith) (λ _. omega arith)
 
 cast-t3 : tie.Need-overflow-cast-t3
 cast-t3 c = search rules
@@ -37,7 +37,7 @@ base-requires c κs = search rules
 mul-t7 : tie.Need-overflow-mul-t7
 mul-t7 c =
     let f = c.before.before.before.args.fields in
-    let b : c.base.result ≤ 10 = omega (arith, base-small f.extension) in
+    let b : c.base.result ≤ 10 = omega (arith, base_small f.extension) in
     omega (arith, mul-le-mul (product c.before) b)
 
 returns : tie.Need-returns

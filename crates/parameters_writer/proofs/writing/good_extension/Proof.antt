@@ -2,7 +2,7 @@
 use mathlib.Core.Path.{sym, ap, ◌∙◌}
 use borrow.Author.Rules.{rules}
 use borrow.Author.Tests.{not-true, not-false}
-use Rattle.parameters.specs.Writing.{goodExtension}
+use Rattle.parameters.specs.Writing.{good_extension}
 use Rattle.parameters_writer.proofs.writing.good_extension.Statement.{statement}
 use Rattle.parameters_writer.proofs.writing.good_extension.Tie as tie
 
@@ -17,7 +17,7 @@ good-status1-requires c κs = search rules
 
 returns : tie.Need-returns
 returns c =
-    sym (ap goodExtension c.before.before.before.extension.given.1
+    sym (ap good_extension c.before.before.before.extension.given.1
     ∙ simp (sym c.before.good-status1.ensures ∙ not-true _ c.if1.true))
 
 good-status2-requires : tie.Need-good-status2-requires
@@ -26,7 +26,7 @@ good-status2-requires c κs = search rules
 returns-2 : tie.Need-returns-2
 returns-2 c =
     let e1 = c.before.before in
-    sym (ap goodExtension e1.before.before.before.extension.given.1
+    sym (ap good_extension e1.before.before.before.extension.given.1
     ∙ simp (sym e1.before.good-status1.ensures ∙ not-false _ e1.if1.false, sym c.before.good-status2.ensures ∙ not-true _ c.if2.true))
 
 good-status3-requires : tie.Need-good-status3-requires
@@ -39,7 +39,7 @@ returns-4 : tie.Need-returns-4
 returns-4 c =
     let e2 = c.before in
     let e1 = e2.before.before in
-    sym (ap goodExtension e1.before.before.before.extension.given.1
+    sym (ap good_extension e1.before.before.before.extension.given.1
     ∙ simp (sym e1.before.good-status1.ensures ∙ not-false _ e1.if1.false, sym e2.before.good-status2.ensures ∙ not-false _ e2.if2.false)
     (sym c.good-status3.ensures))
 

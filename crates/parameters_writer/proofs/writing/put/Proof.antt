@@ -2,7 +2,7 @@
 use native.Mathlib.Omega.{arith}
 use borrow.Author.Rules.{rules}
 use Rattle.octets.specs.Front.{first_fits, both_stored}
-use Rattle.parameters.specs.Writing.{frontBytes}
+use Rattle.parameters.specs.Writing.{front_bytes}
 use Rattle.parameters.specs.Lemmas.Fields.{front_length}
 use Rattle.parameters_writer.proofs.writing.put.Statement.{statement}
 use Rattle.parameters_writer.proofs.writing.put.Tie as tie
@@ -11,7 +11,7 @@ put-front-requires : tie.Need-put-front-requires
 put-front-requires c κs =
     let b = c.before.before.before in
     let f = b.args.fields in
-    omega (arith, front_length f, first_fits (frontBytes f) b.args.user.now b.requires)
+    omega (arith, front_length f, first_fits (front_bytes f) b.args.user.now b.requires)
 
 store-behind-requires : tie.Need-store-behind-requires
 store-behind-requires c κs = search rules

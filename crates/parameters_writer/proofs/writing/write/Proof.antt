@@ -8,31 +8,31 @@ use lib.ListN.{length}
 use borrow.Author.Rules.{rules}
 use borrow.Author.Tests.{lt-ltb, le-ltb, not-true, not-false}
 use Rattle.octets.specs.Front.{Verdict, fine, fault, refused, too_small, stored}
-use Rattle.parameters.specs.Fields.{mode_of, fixedLength, extensionVerdict, verdictOf}
-use Rattle.parameters.specs.Writing.{bytesFor, userStart, verdictFor}
-use Rattle.parameters.specs.Lemmas.Fields.{fixed-most, bytes-length, extension-verdict}
+use Rattle.parameters.specs.Fields.{mode_of, fixed_length, extension_verdict, verdict_of}
+use Rattle.parameters.specs.Writing.{bytes_for, user_start, verdict_for}
+use Rattle.parameters.specs.Lemmas.Fields.{fixed_most, bytes_length, extension_verdict_lem}
 use Rattle.parameters_writer.proofs.writing.write.Statement.{statement}
 use Rattle.parameters_writer.proofs.writing.write.Tie as tie
 
 -- of what is to be written: its bytes, and the verdict
 abbrev bytes_at : tie.Start → List ℕ
-bytes_at b = bytesFor b.args.fields b.args.user.now
+bytes_at b = bytes_for b.args.fields b.args.user.now
 
-abbrev verdictAt : tie.Start → Verdict
-verdictAt b = verdictFor b.args.fields b.args.user.now
+abbrev verdict_at : tie.Start → Verdict
+verdict_at b = verdict_for b.args.fields b.args.user.now
 
 -- where the length is added up: the function's entry, and the sum
 abbrev entry : tie.After-fixed-length → tie.Start
 entry c = c.before.before.before.before
 
-start : (c : tie.After-fixed-length) → c.fixed-length.result ≡ userStart (entry c).args.fields
-start c = c.fixed-length.ensures ∙ ap fixedLength c.before.Mode-of.ensures
+start : (c : tie.After-fixed-length) → c.fixed-length.result ≡ user_start (entry c).args.fields
+start c = c.fixed-length.ensures ∙ ap fixed_length c.before.Mode-of.ensures
 
 total : (c : tie.After-fixed-length) → length (bytes_at (entry c)) ≡ c.fixed-length.result + length (entry c).args.user.now
-total c = omega (arith, bytes-length (entry c).args.fields (entry c).args.user.now, start c)
+total c = omega (arith, bytes_length (entry c).args.fields (entry c).args.user.now, start c)
 
 -- the sum is at most 244
-small : (c : tie.Else1) → let a = (entry c.before).args in userStart a.fields + length a.user.now ≤ 244
+small : (c : tie.Else1) → let a = (entry c.before).args in user_start a.fields + length a.user.now ≤ 244
 small c = omega (arith, start c.before)
 
 mode-of-requires : tie.Need-mode-of-requires
@@ -42,20 +42,20 @@ fixed-length-requires : tie.Need-fixed-length-requires
 fixed-length-requires c κs = search rules
 
 add-size : tie.Need-overflow-add-size
-add-size c = omega (arith, start c, fixed-most (mode_of (entry c).args.fields.extension))
+add-size c = omega (arith, start c, fixed_most (mode_of (entry c).args.fields.extension))
 
 returns : tie.Need-returns
-unfolding verdictOf
+unfolding verdict_of
 returns c =
     let b = entry c.before in
-    let h : 244 < userStart b.args.fields + length b.args.user.now = omega (arith, start c.before) in
+    let h : 244 < user_start b.args.fields + length b.args.user.now = omega (arith, start c.before) in
     simp (lt-ltb _ _ h) (refused 20 (bytes_at b) b.args.out.now)
 
 good-flags-requires : tie.Need-good-flags-requires
 good-flags-requires c κs = search rules
 
 returns-2 : tie.Need-returns-2
-unfolding verdictOf
+unfolding verdict_of
 returns-2 c =
     let e1 = c.before.before in
     let b = entry e1.before in
@@ -65,7 +65,7 @@ good-response-requires : tie.Need-good-response-requires
 good-response-requires c κs = search rules
 
 returns-3 : tie.Need-returns-3
-unfolding verdictOf
+unfolding verdict_of
 returns-3 c =
     let e2 = c.before.before.before in
     let e1 = e2.before.before in
@@ -78,8 +78,8 @@ returns-3 c =
     (refused 21 (bytes_at b) b.args.out.now)
 
 -- what the first three tests leave
-rest : (c : tie.Else3) → let b = entry c.before.before.before.before.before.before in verdictAt b ≡ extensionVerdict b.args.fields.extension
-unfolding verdictOf
+rest : (c : tie.Else3) → let b = entry c.before.before.before.before.before.before in verdict_at b ≡ extension_verdict b.args.fields.extension
+unfolding verdict_of
 rest c =
     let e2 = c.before.before.before in
     simp (
@@ -89,8 +89,8 @@ rest c =
     )
 
 -- and the last
-verdict : (c : tie.Else4) → verdictAt (entry c.before.before.before.before.before.before.before.before) ≡ fine
-verdict c = rest c.before.before ∙ extension-verdict _ ∙ simp (sym c.before.good-extension.ensures ∙ not-false _ c.if4.false)
+verdict : (c : tie.Else4) → verdict_at (entry c.before.before.before.before.before.before.before.before) ≡ fine
+verdict c = rest c.before.before ∙ extension_verdict_lem _ ∙ simp (sym c.before.good-extension.ensures ∙ not-false _ c.if4.false)
 
 good-extension-requires : tie.Need-good-extension-requires
 good-extension-requires c κs = search rules
@@ -99,7 +99,7 @@ returns-4 : tie.Need-returns-4
 returns-4 c =
     let e3 = c.before.before in
     let b = entry e3.before.before.before.before.before.before in
-    let v : verdictAt b ≡ fault 21 = rest e3 ∙ extension-verdict _ ∙ simp (sym c.before.good-extension.ensures ∙ not-true _ c.if4.true) in
+    let v : verdict_at b ≡ fault 21 = rest e3 ∙ extension_verdict_lem _ ∙ simp (sym c.before.good-extension.ensures ∙ not-true _ c.if4.true) in
     rw v (refused 21 (bytes_at b) b.args.out.now)
 
 returns-5 : tie.Need-returns-5

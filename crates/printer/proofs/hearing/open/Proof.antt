@@ -2,7 +2,7 @@
 use mathlib.Core.Path.{ap}
 use borrow.Author.Rules.{rules}
 use Rattle.protocol.specs.Printer as printer
-use Rattle.protocol.specs.Printer.{replyBytes}
+use Rattle.protocol.specs.Printer.{reply_bytes}
 use Rattle.printer.proofs.Heard.{opens}
 use Rattle.printer.proofs.hearing.open.Statement.{statement}
 use Rattle.printer.proofs.hearing.open.Tie as tie
@@ -26,7 +26,7 @@ returns c =
     let a = o.before.before.before.args in
     λ body.
     opens c.opened.ensures
-    (ap (λ (x : printer.Reply). replyBytes a.diagnosis.now a.printer.address a.sa x) (o.opening-reply.ensures body)) s.say.ensures
+    (ap (λ (x : printer.Reply). reply_bytes a.diagnosis.now a.printer.address a.sa x) (o.opening-reply.ensures body)) s.say.ensures
 
 pub open_spec : {M : Type 1} → statement M
 open_spec =

@@ -4,7 +4,7 @@ use native.Mathlib.Omega.{arith}
 use lib.ListN.{length-set}
 use borrow.Author.Rules.{rules}
 use Rattle.octets.specs.Front.{stores}
-use Rattle.content.specs.Writing.{bytesFor}
+use Rattle.content.specs.Writing.{bytes_for}
 use Rattle.printer.proofs.replies.put_result.Statement.{statement}
 use Rattle.printer.proofs.replies.put_result.Tie as tie
 
@@ -42,7 +42,7 @@ same_length : tie.Need-same-length
 same_length c = search rules
 
 returns : tie.Need-returns
-unfolding bytesFor
+unfolding bytes_for
 returns c =
     let b = c.before.before.before in
     let g = c.before.outcome.given in
@@ -52,7 +52,7 @@ same-length-2 : tie.Need-same-length-2
 same-length-2 c = search rules
 
 returns-2 : tie.Need-returns-2
-unfolding bytesFor
+unfolding bytes_for
 returns-2 c =
     let b = c.before.before.before in
     let g = c.before.outcome2.given in

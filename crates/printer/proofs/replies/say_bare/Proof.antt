@@ -4,28 +4,28 @@ use mathlib.Core.List.{List, []}
 use Prim.Native.Nat.{ℕ}
 use borrow.Author.Rules.{rules}
 use Rattle.octets.specs.Front.{fine}
-use Rattle.fdl.specs.Around.{user-none}
-use Rattle.fdl.specs.Writing.{telegramOf, verdictOf}
+use Rattle.fdl.specs.Around.{user_none}
+use Rattle.fdl.specs.Writing.{telegram_of, verdict_of}
 use Rattle.fdl.specs.declared.telegram.Format.TheVariants.{Sd1}
 use Rattle.fdl.specs.declared.telegram.Header.{Header}
 use Rattle.fdl.specs.declared.telegram.Sap.TheVariants.{Absent}
-use Rattle.access.specs.Route.{headerWith}
-use Rattle.protocol.specs.MachineLaws.Replies.{bare-fine}
-use Rattle.printer_rules.specs.Meaning.{functionOf}
-use Rattle.printer.proofs.Sent.{small, sent, short, bare-class}
+use Rattle.access.specs.Route.{header_with}
+use Rattle.protocol.specs.MachineLaws.Replies.{bare_fine}
+use Rattle.printer_rules.specs.Meaning.{function_of}
+use Rattle.printer.proofs.Sent.{small, sent, short, bare_class}
 use Rattle.printer.proofs.replies.say_bare.Statement.{statement}
 use Rattle.printer.proofs.replies.say_bare.Tie as tie
 
 abbrev header_at : tie.After-function-of → Header
-header_at c = headerWith c.before.before.args.to c.before.before.args.address c.Function-of.result Absent Absent
+header_at c = header_with c.before.before.args.to c.before.before.args.address c.Function-of.result Absent Absent
 
 abbrev bytes_at : tie.After-function-of → List ℕ
-bytes_at c = telegramOf Sd1 (header_at c) []
+bytes_at c = telegram_of Sd1 (header_at c) []
 
-fineAt : (c : tie.After-function-of) → verdictOf Sd1 (header_at c) [] ≡ fine
-fineAt c =
+fine_at : (c : tie.After-function-of) → verdict_of Sd1 (header_at c) [] ≡ fine
+fine_at c =
     let b = c.before.before in
-    rw c.Function-of.ensures (bare-fine b.args.to b.args.address b.requires.other b.requires.own (functionOf b.args.status) (bare-class b.args.status))
+    rw c.Function-of.ensures (bare_fine b.args.to b.args.address b.requires.other b.requires.own (function_of b.args.status) (bare_class b.args.status))
 
 function-of-requires : tie.Need-function-of-requires
 function-of-requires c κs = search rules
@@ -38,7 +38,7 @@ stored-requires c κs =
     let w = c.before.before in
     let f = w.before.before in
     let b = f.before.before in
-    small (bytes_at f) b.args.out.now (fineAt f) (short Sd1 (header_at f) [] (fineAt f)) b.requires.room (rw (user-none Sd1 (header_at f) b.args.out.now) at w.write-around.ensures.0)
+    small (bytes_at f) b.args.out.now (fine_at f) (short Sd1 (header_at f) [] (fine_at f)) b.requires.room (rw (user_none Sd1 (header_at f) b.args.out.now) at w.write-around.ensures.0)
 
 same_length : tie.Need-same-length
 same_length c = search rules
@@ -48,9 +48,9 @@ returns c =
     let w = c.before.before.before in
     let f = w.before.before in
     let b = f.before.before in
-    let n = user-none Sd1 (header_at f) b.args.out.now in
+    let n = user_none Sd1 (header_at f) b.args.out.now in
     rw f.Function-of.ensures at
-    (sent (bytes_at f) b.args.out.now (fineAt f) (short Sd1 (header_at f) [] (fineAt f)) b.requires.room (rw n at w.write-around.ensures.0) (rw n at w.write-around.ensures.1) c.stored.ensures)
+    (sent (bytes_at f) b.args.out.now (fine_at f) (short Sd1 (header_at f) [] (fine_at f)) b.requires.room (rw n at w.write-around.ensures.0) (rw n at w.write-around.ensures.1) c.stored.ensures)
 
 pub say-bare-spec : {M : Type 1} → statement M
 say-bare-spec =

@@ -6,14 +6,14 @@ use native.Mathlib.Omega.{arith}
 use lib.ListN.{length}
 use borrow.Author.Rules.{rules}
 use Rattle.octets.specs.Front.{fine, lent_length}
-use Rattle.fdl.specs.Writing.{telegramOf, verdictOf}
+use Rattle.fdl.specs.Writing.{telegram_of, verdict_of}
 use Rattle.fdl.specs.declared.telegram.Format.TheVariants.{Sd2}
 use Rattle.fdl.specs.declared.telegram.Header.{Header}
-use Rattle.content.specs.Writing.{bytesFor}
+use Rattle.content.specs.Writing.{bytes_for}
 use Rattle.content.specs.declared.fields.Content.TheVariants as content
-use Rattle.protocol.specs.Lemmas.Read.{outcome-telegram}
+use Rattle.protocol.specs.Lemmas.Read.{outcome_telegram}
 use Rattle.protocol.specs.Telegrams.{answer_of}
-use Rattle.printer.proofs.Sent.{as_said, place-fits, around-small, around-sent, result-long, result-fine}
+use Rattle.printer.proofs.Sent.{as_said, place_fits, around_small, around_sent, result_long, result_fine}
 use Rattle.printer.proofs.replies.say_result.Statement.{statement}
 use Rattle.printer.proofs.replies.say_result.Tie as tie
 
@@ -21,18 +21,18 @@ abbrev entry : tie.After-user-start → tie.Start
 entry c = c.before.before.before
 
 abbrev bytes_at : tie.Start → List ℕ
-bytes_at b = bytesFor (content.Dpv1Answer (answer_of b.args.outcome)) []
+bytes_at b = bytes_for (content.Dpv1Answer (answer_of b.args.outcome)) []
 
-fineAt : (c : tie.After-user-start) → verdictOf Sd2 c.before.header_of.result (bytes_at (entry c)) ≡ fine
-fineAt c =
+fine_at : (c : tie.After-user-start) → verdict_of Sd2 c.before.header_of.result (bytes_at (entry c)) ≡ fine
+fine_at c =
     let b = entry c in
-    subst (λ (h : Header). verdictOf Sd2 h (bytes_at b) ≡ fine) (sym c.before.header_of.ensures)
-    (result-fine b.args.to b.args.address b.pre.other b.pre.own b.args.outcome)
+    subst (λ (h : Header). verdict_of Sd2 h (bytes_at b) ≡ fine) (sym c.before.header_of.ensures)
+    (result_fine b.args.to b.args.address b.pre.other b.pre.own b.args.outcome)
 
 room : (c : tie.After-user-start) → c.user-start.result + 4 ≤ length (entry c).args.out.now
 room c =
     let b = entry c in
-    omega (arith, b.pre.room, result-long b.args.outcome, place-fits Sd2 c.before.header_of.result (bytes_at b) b.args.out.now (fineAt c) b.pre.room c.user-start.result c.user-start.ensures)
+    omega (arith, b.pre.room, result_long b.args.outcome, place_fits Sd2 c.before.header_of.result (bytes_at b) b.args.out.now (fine_at c) b.pre.room c.user-start.result c.user-start.ensures)
 
 header-of-requires : tie.Need-header-of-requires
 header-of-requires c κs = search rules
@@ -63,7 +63,7 @@ stored-requires c κs =
     let p = w.before.before.before.before in
     let u = p.before.before in
     let b = entry u in
-    around-small Sd2 u.before.header_of.result (bytes_at b) b.args.out.now (fineAt u) b.pre.room u.user-start.result u.user-start.ensures p.put-result.ensures w.write-around.ensures.0
+    around_small Sd2 u.before.header_of.result (bytes_at b) b.args.out.now (fine_at u) b.pre.room u.user-start.result u.user-start.ensures p.put-result.ensures w.write-around.ensures.0
 
 same_length : tie.Need-same-length
 same_length c = search rules
@@ -75,8 +75,8 @@ returns c =
     let u = p.before.before in
     let b = entry u in
     as_said
-    (ap (λ (h : Header). telegramOf Sd2 h (bytes_at b)) u.before.header_of.ensures ∙ sym (outcome-telegram b.args.to b.args.address b.args.outcome))
-    (around-sent Sd2 u.before.header_of.result (bytes_at b) b.args.out.now (fineAt u) b.pre.room u.user-start.result u.user-start.ensures p.put-result.ensures w.write-around.ensures.0 w.write-around.ensures.1 c.stored.ensures)
+    (ap (λ (h : Header). telegram_of Sd2 h (bytes_at b)) u.before.header_of.ensures ∙ sym (outcome_telegram b.args.to b.args.address b.args.outcome))
+    (around_sent Sd2 u.before.header_of.result (bytes_at b) b.args.out.now (fine_at u) b.pre.room u.user-start.result u.user-start.ensures p.put-result.ensures w.write-around.ensures.0 w.write-around.ensures.1 c.stored.ensures)
 
 pub say-result-spec : {M : Type 1} → statement M
 say-result-spec =

@@ -1,7 +1,7 @@
 -- `printer_bytes::state::printer_in` meets its contract.
 use mathlib.Core.Path.{sym, ap, ◌∙◌}
 use borrow.Author.Tests.{lt-ltb, le-ltb}
-use Rattle.printer_bytes.specs.State.{found, printerIn}
+use Rattle.printer_bytes.specs.State.{found, printer_in}
 use borrow.Author.Rules.{rules}
 use Rattle.printer_bytes.proofs.state.printer_in.Statement.{statement}
 use Rattle.printer_bytes.proofs.state.printer_in.Tie as tie
@@ -10,14 +10,14 @@ element-copy-out-if1 : tie.Need-element-copy-out-if1
 element-copy-out-if1 c = search rules
 
 returns : tie.Need-returns
-unfolding printerIn
+unfolding printer_in
 returns c = simp (lt-ltb _ _ c.if1.true)
 
 element-copy-out-if2 : tie.Need-element-copy-out-if2
 element-copy-out-if2 c = search rules
 
 returns-2 : tie.Need-returns-2
-unfolding printerIn
+unfolding printer_in
 returns-2 c = simp (le-ltb _ _ c.before.before.if1.false, lt-ltb _ _ c.if2.true)
 
 element-copy-out-pending-by : tie.Need-element-copy-out-pending-by
@@ -63,14 +63,14 @@ element-copy-out-t44 : tie.Need-element-copy-out-t44
 element-copy-out-t44 c = search rules
 
 returns-3 : tie.Need-returns-3
-unfolding printerIn
+unfolding printer_in
 returns-3 c =
     let k = c.before.before in
     let i = k.before.before.before.before.before.before in
     simp (le-ltb _ _ i.before.before.if1.false, le-ltb _ _ i.if2.false, sym k.pending-by.ensures ∙ c.enum_told.given.1)
 
 returns-4 : tie.Need-returns-4
-unfolding printerIn
+unfolding printer_in
 returns-4 c =
     let t = c.before.before.before.before.before.before.before in
     let k = t.before.before in

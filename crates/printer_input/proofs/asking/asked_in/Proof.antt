@@ -6,13 +6,13 @@ use native.Mathlib.Omega.{arith}
 use lib.ListN.{length}
 use borrow.Author.Tests.{not-true, not-false}
 use Rattle.octets.specs.Choice.{pick}
-use Rattle.octets.specs.Part.{part-short}
+use Rattle.octets.specs.Part.{part_short}
 use Rattle.octets.specs.declared.Mode.TheVariants as mode
 use Prim.Native.Nat.{ℕ}
 use Rattle.fdl.specs.declared.reading.Reading.{Reading}
-use Rattle.access.specs.Route.{routeOf}
-use Rattle.service.specs.Reading.{routedBy, serviceIn, read_of}
-use Rattle.protocol.specs.Printer.{unknown, askBy, askIn}
+use Rattle.access.specs.Route.{route_of}
+use Rattle.service.specs.Reading.{routed_by, service_in, read_of}
+use Rattle.protocol.specs.Printer.{unknown, ask_by, ask_in}
 use borrow.Author.Rules.{rules}
 use Rattle.printer_input.proofs.asking.asked_in.Statement.{statement}
 use Rattle.printer_input.proofs.asking.asked_in.Tie as tie
@@ -21,7 +21,7 @@ is-srd-requires : tie.Need-is-srd-requires
 is-srd-requires c κs = search rules
 
 returns : tie.Need-returns
-unfolding askIn
+unfolding ask_in
 returns c f told = simp (sym c.before.is-srd.ensures ∙ not-true _ c.if1.true)
 
 part-requires : tie.Need-part-requires
@@ -32,10 +32,10 @@ routed-requires c κs =
     let b = c.before.before.before.before in
     let a = b.args in
     let e = ap length c.part.ensures in
-    (b.requires.0, b.requires.1, omega (arith, e, part-short a.telegram.now a.start a.len, b.requires.2))
+    (b.requires.0, b.requires.1, omega (arith, e, part_short a.telegram.now a.start a.len, b.requires.2))
 
 returns-2 : tie.Need-returns-2
-unfolding askIn read_of
+unfolding ask_in read_of
 returns-2 c f told =
     let k = c.before in
     let i = k.before in
@@ -43,9 +43,9 @@ returns-2 c f told =
     let a = b.args in
     let s = a.telegram.now in
     let srd = sym i.before.is-srd.ensures ∙ not-false _ i.if1.false in
-    c.routed.ensures s f ∙ ap (λ (u : List ℕ). askBy s (routedBy (routeOf a.header) f a.header a.start u mode.Dpv1)) k.part.ensures
-    ∙ ap (λ (t : Reading). askBy s (serviceIn s mode.Dpv1 t)) told
-    ∙ sym (ap (λ (t : Bool). pick t (askBy s (read_of s mode.Dpv1)) unknown) srd)
+    c.routed.ensures s f ∙ ap (λ (u : List ℕ). ask_by s (routed_by (route_of a.header) f a.header a.start u mode.Dpv1)) k.part.ensures
+    ∙ ap (λ (t : Reading). ask_by s (service_in s mode.Dpv1 t)) told
+    ∙ sym (ap (λ (t : Bool). pick t (ask_by s (read_of s mode.Dpv1)) unknown) srd)
 
 pub asked-in-spec : {M : Type 1} → statement M
 asked-in-spec =

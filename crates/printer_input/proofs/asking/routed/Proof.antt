@@ -2,25 +2,25 @@
 use mathlib.Core.Path.{◌≡◌, sym, ap, ◌∙◌}
 use native.Mathlib.Omega.{arith}
 use Rattle.octets.specs.declared.Mode.TheVariants.{Dpv1}
-use Rattle.access.specs.Route.{routeOf}
-use Rattle.access.specs.Laws.{class-route}
+use Rattle.access.specs.Route.{route_of}
+use Rattle.access.specs.Laws.{class_route}
 use Rattle.access.specs.declared.route.Route.{Route}
 use Rattle.content.specs.Reading.{end_of}
-use Rattle.content.specs.Lemmas.Inside.{call-inside}
+use Rattle.content.specs.Lemmas.Inside.{call_inside}
 use Rattle.content.specs.declared.reading.UserData.{UserData}
-use Rattle.service.specs.Reading.{placed_at, routedBy}
+use Rattle.service.specs.Reading.{placed_at, routed_by}
 use Rattle.service.specs.declared.reading.Way.TheVariants as way
-use Rattle.protocol.specs.Printer.{askBy}
+use Rattle.protocol.specs.Printer.{ask_by}
 use Rattle.printer_input.proofs.Way.{no_answer}
 use borrow.Author.Rules.{rules}
 use Rattle.printer_input.proofs.asking.routed.Statement.{statement}
 use Rattle.printer_input.proofs.asking.routed.Tie as tie
 
 -- the route is the header's
-told : (c : tie.After-route-by) → routeOf c.before.before.args.header ≡ c.route-by.result
+told : (c : tie.After-route-by) → route_of c.before.before.args.header ≡ c.route_by_lem.result
 told c =
     let b = c.before.before in
-    sym (c.route-by.ensures ∙ class-route b.args.header b.requires.0)
+    sym (c.route_by_lem.ensures ∙ class_route b.args.header b.requires.0)
 
 route-by-requires : tie.Need-route-by-requires
 route-by-requires c κs = search rules
@@ -38,8 +38,8 @@ asked-by-requires : tie.Need-asked-by-requires
 asked-by-requires c κs =
     let r = c.before.before in
     let b = r.before.before.before.before in
-    let e = ap end_of c.read-call.ensures in
-    omega (arith, e, call-inside r.route.given.0.0 b.args.user.now Dpv1, b.requires.2)
+    let e = ap end_of c.read_call.ensures in
+    omega (arith, e, call_inside r.route.given.0.0 b.args.user.now Dpv1, b.requires.2)
 
 enum-told-2 : tie.Need-enum-told-2
 enum-told-2 c = search rules
@@ -52,14 +52,14 @@ returns-2 c s f =
     let k = c.before.before.before in
     let r = k.before.before in
     let a = r.before.before.args in
-    c.asked_by.ensures s f a.header ∙ ap (λ (d : UserData). askBy s (placed_at f a.header way.Call a.at d)) c.before.read-call.ensures
-    ∙ sym (ap (λ (x : Route). askBy s (routedBy x f a.header a.at a.user.now Dpv1)) (told r ∙ k.route.given.1))
+    c.asked_by.ensures s f a.header ∙ ap (λ (d : UserData). ask_by s (placed_at f a.header way.Call a.at d)) c.before.read_call.ensures
+    ∙ sym (ap (λ (x : Route). ask_by s (routed_by x f a.header a.at a.user.now Dpv1)) (told r ∙ k.route.given.1))
 
 returns-3 : tie.Need-returns-3
 returns-3 c s f =
     let r = c.before.before in
     let b = r.before.before in
-    absurd (no_answer b.args.class b.args.header c.enum-told2.given.0.0 b.requires.1 (sym r.route-by.ensures ∙ c.enum-told2.given.1))
+    absurd (no_answer b.args.class b.args.header c.enum-told2.given.0.0 b.requires.1 (sym r.route_by_lem.ensures ∙ c.enum-told2.given.1))
 
 pub routed-spec : {M : Type 1} → statement M
 routed-spec =

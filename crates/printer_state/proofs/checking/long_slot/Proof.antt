@@ -9,13 +9,13 @@ use lib.ListN.{length, get_or, drop}
 use lib.Seq.{drop-length}
 use borrow.Author.Rules.{rules}
 use Rattle.octets.specs.Choice.{◌or◌}
-use Rattle.protocol.specs.Slots.{tooLong}
+use Rattle.protocol.specs.Slots.{too_long}
 use Rattle.printer_state.proofs.Lengths.{next}
 use Rattle.printer_state.proofs.checking.long_slot.Statement.{statement}
 use Rattle.printer_state.proofs.checking.long_slot.Tie as tie
 
 abbrev invariant-loop : tie.invariant-loop
-invariant-loop lengths all long₀ i₀ long i = (i ≤ length all) × ((long or tooLong (drop i all)) ≡ tooLong lengths)
+invariant-loop lengths all long₀ i₀ long i = (i ≤ length all) × ((long or too_long (drop i all)) ≡ too_long lengths)
 
 abbrev decreases-loop : tie.decreases-loop
 decreases-loop lengths all long₀ i₀ long i = length all - i
@@ -51,7 +51,7 @@ loop-again c =
     let l = b.before.before.args.lengths.now in
     let i = b.loop.i in
     let long = b.loop.long in
-    let rest = tooLong (drop (i + 1) l) in (
+    let rest = too_long (drop (i + 1) l) in (
       omega arith,
       ap (λ (x : Bool). x or rest) c.longer.ensures ∙ swapped (ltb 200 (get_or l i 0)) long rest
           ∙ ap (λ (x : Bool). long or x) (sym (next l i t.loop-test.true)) ∙ b.loop.invariant.1,

@@ -1,6 +1,6 @@
 -- A configuration that is accepted has at most 244 bytes on each side, so that the totals fit 16 bits; the search finds the other needs.
 use Rattle.std.proofs.Common.{sym, ◌∙◌, arith, rules}
-use Rattle.configuration.specs.Laws.{Totals, totals-are-sums}
+use Rattle.configuration.specs.Laws.{Totals, totals_are_sums}
 use Rattle.show.proofs.configuration_lines.configuration_lines.Statement.{statement}
 use Rattle.show.proofs.configuration_lines.configuration_lines.Tie as tie
 
@@ -9,7 +9,7 @@ entry c = c.before.before.before.before
 
 -- what reading gave
 totals : (c : tie.After-reading) → let g = c.reading.given.0 in Totals (entry c).args.bytes.now g.0 g.1.0 g.1.1.0
-totals c = totals-are-sums (entry c).args.bytes.now (sym c.before.before.read.ensures ∙ c.reading.given.1)
+totals c = totals_are_sums (entry c).args.bytes.now (sym c.before.before.read.ensures ∙ c.reading.given.1)
 
 read-requires : tie.Need-read-requires
 read-requires c κs = search rules
@@ -21,10 +21,10 @@ total-line-requires : tie.Need-total-line-requires
 total-line-requires c κs = search rules
 
 cast-module-lines : tie.Need-overflow-cast-module-lines
-cast-module-lines c = record { fits = omega (arith, (totals c.before.before).most-inputs) }
+cast-module-lines c = record { fits = omega (arith, (totals c.before.before).most_inputs) }
 
 cast-module-lines-2 : tie.Need-overflow-cast-module-lines-2
-cast-module-lines-2 c = record { fits = omega (arith, (totals c.before.before).most-outputs) }
+cast-module-lines-2 c = record { fits = omega (arith, (totals c.before.before).most_outputs) }
 
 module-lines-requires : tie.Need-module-lines-requires
 module-lines-requires c κs = search rules

@@ -4,10 +4,10 @@ use Rattle.show.proofs.configuration_lines.module_lines.Statement.{statement}
 use Rattle.show.proofs.configuration_lines.module_lines.Tie as tie
 
 abbrev invariant-loop : tie.invariant-loop
-invariant-loop bytes modules inputs outputs input-offsets output-offsets i₀ i = Unit {0}
+invariant-loop bytes modules inputs outputs input_offsets_lem output_offsets_lem i₀ i = Unit {0}
 
 abbrev decreases-loop : tie.decreases-loop
-decreases-loop bytes modules inputs outputs input-offsets output-offsets i₀ i = 255 - i
+decreases-loop bytes modules inputs outputs input_offsets_lem output_offsets_lem i₀ i = 255 - i
 
 pub module-lines-spec : {M : Type 1} → statement M
 module-lines-spec =

@@ -1,7 +1,7 @@
 -- `typed_reader::reading::long` meets its contract: all that is behind the code is four bytes.
 use mathlib.Core.Path.{sym, ap, ◌∙◌}
 use borrow.Author.Rules.{rules}
-use Rattle.octets.specs.Elements.{rest-elements}
+use Rattle.octets.specs.Elements.{rest_elements}
 use Rattle.octets.specs.Number.{number_of}
 use Rattle.typed_reader.proofs.reading.long.Statement.{statement}
 use Rattle.typed_reader.proofs.reading.long.Tie as tie
@@ -24,7 +24,7 @@ join32-requires c κs = search rules
 returns : tie.Need-returns
 returns c =
     let b = c.before.before.before.before.before.before in
-    c.join32.ensures ∙ ap number_of (sym (rest-elements 4 1 b.args.bytes.now (sym b.requires)))
+    c.join32.ensures ∙ ap number_of (sym (rest_elements 4 1 b.args.bytes.now (sym b.requires)))
 
 pub long-spec : {M : Type 1} → statement M
 long-spec =

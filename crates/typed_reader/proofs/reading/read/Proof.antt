@@ -9,7 +9,7 @@ use lib.Dec.{eqb}
 use borrow.Author.Rules.{rules}
 use borrow.Author.Tests.{eq-eqb, ne_eqb}
 use Rattle.typed.specs.Value.{one, two, four, Kind, boolean, signed, unsigned, floating, kind_of, width_in, width_of}
-use Rattle.typed.specs.Reading.{goodCode, read_of}
+use Rattle.typed.specs.Reading.{good_code, read_of}
 use Rattle.typed.specs.declared.reading.Reading.TheVariants.{Value}
 use Rattle.typed_reader.proofs.reading.read.Statement.{statement}
 use Rattle.typed_reader.proofs.reading.read.Tie as tie
@@ -35,7 +35,7 @@ code_at c = get_or (bytes_at c) 0 0
 some : (c : tie.Else2) → eqb (length (bytes_at c)) 0 ≡ false
 some c = ne_eqb _ _ c.before.before.before.if1.false
 
-good : (c : tie.Else2) → not (goodCode (code_at c)) ≡ false
+good : (c : tie.Else2) → not (good_code (code_at c)) ≡ false
 good c = ap not (sym c.before.good-code.ensures) ∙ c.if2.false
 
 -- the length that is asked for is the definition's

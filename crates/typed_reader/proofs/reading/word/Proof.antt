@@ -1,7 +1,7 @@
 -- `typed_reader::reading::word` meets its contract: all that is behind the code is two bytes.
 use mathlib.Core.Path.{sym, ap, ◌∙◌}
 use borrow.Author.Rules.{rules}
-use Rattle.octets.specs.Elements.{rest-elements}
+use Rattle.octets.specs.Elements.{rest_elements}
 use Rattle.octets.specs.Number.{number_of}
 use Rattle.typed_reader.proofs.reading.word.Statement.{statement}
 use Rattle.typed_reader.proofs.reading.word.Tie as tie
@@ -18,7 +18,7 @@ join16-requires c κs = search rules
 returns : tie.Need-returns
 returns c =
     let b = c.before.before.before.before in
-    c.join16.ensures ∙ ap number_of (sym (rest-elements 2 1 b.args.bytes.now (sym b.requires)))
+    c.join16.ensures ∙ ap number_of (sym (rest_elements 2 1 b.args.bytes.now (sym b.requires)))
 
 pub word-spec : {M : Type 1} → statement M
 word-spec =

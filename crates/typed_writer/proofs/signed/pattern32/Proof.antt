@@ -1,20 +1,20 @@
 -- `typed_writer::signed::pattern32` meets its contract: a negative number goes by its complement.
 use mir.Syntax.{w32}
-use Rattle.typed.specs.Lemmas.Complement.{flipped-fits, flipped_below, flipped-back, kept-fits, kept_back}
+use Rattle.typed.specs.Lemmas.Complement.{flipped_fits, flipped_below, flipped_back, kept_fits, kept_back}
 use Rattle.typed_writer.proofs.signed.pattern32.Statement.{statement}
 use Rattle.typed_writer.proofs.signed.pattern32.Tie as tie
 
 cast-result : tie.Need-overflow-cast-result
-cast-result c = flipped-fits w32 _ c.before.ranges.number c.if1.true
+cast-result c = flipped_fits w32 _ c.before.ranges.number c.if1.true
 
 sub-result : tie.Need-overflow-sub-result
 sub-result c = flipped_below w32 _ c.before.ranges.number c.if1.true
 
 cast-result-2 : tie.Need-overflow-cast-result-2
-cast-result-2 c = kept-fits w32 _ c.before.ranges.number c.if1.false
+cast-result-2 c = kept_fits w32 _ c.before.ranges.number c.if1.false
 
 returns : tie.Need-returns
-returns c = flipped-back w32 _ c.before.ranges.number c.if1.true
+returns c = flipped_back w32 _ c.before.ranges.number c.if1.true
 
 returns-2 : tie.Need-returns-2
 returns-2 c = kept_back w32 _ c.before.ranges.number c.if1.false

@@ -4,7 +4,7 @@ use native.Mathlib.Omega.{arith}
 use lib.ListN.{length-set}
 use borrow.Author.Rules.{rules}
 use Rattle.octets.specs.Front.{too_small}
-use Rattle.typed_writer.proofs.Coded.{most, behind-code}
+use Rattle.typed_writer.proofs.Coded.{most, behind_code}
 use Rattle.typed_writer.proofs.writing.write32.Statement.{statement}
 use Rattle.typed_writer.proofs.writing.write32.Tie as tie
 
@@ -35,7 +35,7 @@ same_length c = c.before.out.given.1 ∙ simp length-set
 returns-2 : tie.Need-returns-2
 returns-2 c =
     let s = c.before.before.store32.ensures in
-    behind-code _ _ _ s.0 s.1 c.before.before.before.before.if1.false
+    behind_code _ _ _ s.0 s.1 c.before.before.before.before.if1.false
 
 pub write32-spec : {M : Type 1} → statement M
 write32-spec =

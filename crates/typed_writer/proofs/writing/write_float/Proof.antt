@@ -3,7 +3,7 @@ use mathlib.Core.Path.{sym, ◌∙◌}
 use borrow.Author.Rules.{rules}
 use Rattle.octets.specs.Front.{refused}
 use Rattle.float.specs.Float.{known, unknown}
-use Rattle.typed.specs.Writing.{bytesFor}
+use Rattle.typed.specs.Writing.{bytes_for}
 use Rattle.typed.specs.declared.value.Value.TheVariants.{Float}
 use Rattle.typed_writer.proofs.writing.write_float.Statement.{statement}
 use Rattle.typed_writer.proofs.writing.write_float.Tie as tie
@@ -35,7 +35,7 @@ returns-2 : tie.Need-returns-2
 returns-2 c =
     let m = c.before.before in
     let a = m.before.before.args in
-    rw (unknown a.number (sym m.pattern-of.ensures ∙ c.enum_told.given.1)) (refused 12 (bytesFor (Float a.number)) a.out.now)
+    rw (unknown a.number (sym m.pattern-of.ensures ∙ c.enum_told.given.1)) (refused 12 (bytes_for (Float a.number)) a.out.now)
 
 pub write-float-spec : {M : Type 1} → statement M
 write-float-spec =

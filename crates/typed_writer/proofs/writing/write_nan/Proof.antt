@@ -3,7 +3,7 @@ use mathlib.Core.Path.{sym, ap, ◌∙◌}
 use mathlib.Core.Bool.{not}
 use borrow.Author.Rules.{rules}
 use Rattle.octets.specs.Front.{refused}
-use Rattle.typed.specs.Writing.{bytesFor}
+use Rattle.typed.specs.Writing.{bytes_for}
 use Rattle.typed.specs.declared.value.Value.TheVariants.{Nan}
 use Rattle.typed_writer.proofs.writing.write_nan.Statement.{statement}
 use Rattle.typed_writer.proofs.writing.write_nan.Tie as tie
@@ -15,7 +15,7 @@ returns : tie.Need-returns
 returns c =
     let n = c.before in
     let a = n.before.before.args in
-    rw (ap not (sym n.is-nan-pattern.ensures) ∙ c.if1.true) (refused 12 (bytesFor (Nan a.bits)) a.out.now)
+    rw (ap not (sym n.is-nan-pattern.ensures) ∙ c.if1.true) (refused 12 (bytes_for (Nan a.bits)) a.out.now)
 
 write32-requires : tie.Need-write32-requires
 write32-requires c κs = search rules

@@ -2,12 +2,12 @@
 use native.Mathlib.Omega.{arith}
 use mir.Syntax.{w16}
 use borrow.Author.Rules.{rules}
-use Rattle.typed.specs.Lemmas.Complement.{flipped-fits, flipped_below, kept-fits}
+use Rattle.typed.specs.Lemmas.Complement.{flipped_fits, flipped_below, kept_fits}
 use Rattle.vectors.proofs.typed_line.signed16_field.Statement.{statement}
 use Rattle.vectors.proofs.typed_line.signed16_field.Tie as tie
 
 cast-negative-field : tie.Need-overflow-cast-negative-field
-cast-negative-field c = flipped-fits w16 _ c.before.ranges.number c.if1.true
+cast-negative-field c = flipped_fits w16 _ c.before.ranges.number c.if1.true
 
 cast-negative-field-2 : tie.Need-overflow-cast-negative-field-2
 cast-negative-field-2 c = record { fits = omega (arith, flipped_below w16 _ c.before.ranges.number c.if1.true) }
@@ -16,7 +16,7 @@ negative-field-requires : tie.Need-negative-field-requires
 negative-field-requires c κs = search rules
 
 cast-word-field : tie.Need-overflow-cast-word-field
-cast-word-field c = kept-fits w16 _ c.before.ranges.number c.if1.false
+cast-word-field c = kept_fits w16 _ c.before.ranges.number c.if1.false
 
 word-field-requires : tie.Need-word-field-requires
 word-field-requires c κs = search rules

@@ -2,12 +2,12 @@
 use native.Mathlib.Omega.{arith}
 use mir.Syntax.{w8}
 use borrow.Author.Rules.{rules}
-use Rattle.typed.specs.Lemmas.Complement.{flipped-fits, flipped_below, kept-fits}
+use Rattle.typed.specs.Lemmas.Complement.{flipped_fits, flipped_below, kept_fits}
 use Rattle.vectors.proofs.typed_line.signed8_field.Statement.{statement}
 use Rattle.vectors.proofs.typed_line.signed8_field.Tie as tie
 
 cast-negative-field : tie.Need-overflow-cast-negative-field
-cast-negative-field c = flipped-fits w8 _ c.before.ranges.number c.if1.true
+cast-negative-field c = flipped_fits w8 _ c.before.ranges.number c.if1.true
 
 cast-negative-field-2 : tie.Need-overflow-cast-negative-field-2
 cast-negative-field-2 c = record { fits = omega (arith, flipped_below w8 _ c.before.ranges.number c.if1.true) }
@@ -16,7 +16,7 @@ negative-field-requires : tie.Need-negative-field-requires
 negative-field-requires c κs = search rules
 
 cast-byte-field : tie.Need-overflow-cast-byte-field
-cast-byte-field c = kept-fits w8 _ c.before.ranges.number c.if1.false
+cast-byte-field c = kept_fits w8 _ c.before.ranges.number c.if1.false
 
 byte-field-requires : tie.Need-byte-field-requires
 byte-field-requires c κs = search rules
