@@ -34,8 +34,8 @@ use Rattle.protocol.specs.declared.download.Downloaded.TheVariants as downloaded
 use Rattle.protocol.specs.declared.printer.Printer.{Printer}
 use Rattle.protocol.specs.declared.printer.Reaction.{Reaction}
 use Rattle.protocol.specs.declared.printer.Reaction.TheVariants as reaction
-use Rattle.download.specs.Laws.{station_after, Sent, sent_so}
-use Rattle.download.specs.Sending.{sent_by, sent_of}
+use Rattle.sending.specs.Laws.{station_after, Sent, sent_so}
+use Rattle.sending.specs.Sending.{sent_by, sent_of}
 use Rattle.download.proofs.Entries.{passage_at, rest_at}
 
 -- ---- what a move does

@@ -5,8 +5,6 @@ ghost use Rattle.protocol.specs.Printer.{lending};
 ghost use Rattle.protocol.specs.Download.{leaving, verdict_of, download_of};
 ghost use Rattle.protocol.specs.Demand.{Downloads};
 
-use crate::check::usable;
-use crate::sending::{at, send};
 use protocol::{Action, Check, Controller, Downloaded, Printer, Reaction, Settings};
 
 // Where a download stands before the controller's step: its state, the printer, and how many bytes of the last
@@ -60,9 +58,9 @@ fn until_ended(
                 controller: next,
                 request: count,
             } => {
-                let entry = at(line, sent as usize);
+                let entry = sending::at(line, sent as usize);
                 let end = count as usize;
-                let reaction = send(
+                let reaction = sending::send(
                     entry,
                     &request[..end],
                     printer,
@@ -118,7 +116,7 @@ pub fn run(
         → Downloads settings book.now line.now not_yet.now diagnosis.now (lending printer lengths.old bodies.old reply.old) (leaving result lengths.new bodies.new reply.new request.new) }
 {
     sixteen(lengths, bodies);
-    let verdict = usable(
+    let verdict = download_check::usable(
         settings, book, line, diagnosis, printer, lengths, bodies, reply, request,
     );
     if let Check::Refused(number) = verdict {

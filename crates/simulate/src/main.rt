@@ -75,7 +75,7 @@ fn turn(
     request: &mut [u8],
 ) -> Stage {
     let sent = part(request, 0, count as usize);
-    let reaction = download::send(
+    let reaction = sending::send(
         entry, sent, printer, not_yet, &DIAGNOSIS, lengths, bodies, reply,
     );
     match reaction {
@@ -142,7 +142,7 @@ fn run(settings: Settings, boarding: u8, book: &[u8], line: &[u8], not_yet: &[u8
     let mut reply = [0u8; 255];
     let mut request = [0u8; 255];
     let printer = fresh(settings.printer, boarding);
-    let check = download::usable(
+    let check = download_check::usable(
         settings, book, line, &DIAGNOSIS, printer, &lengths, &bodies, &reply, &request,
     );
     match check {

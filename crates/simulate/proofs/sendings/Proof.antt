@@ -1,4 +1,4 @@
--- `simulate::main::sendings` meets its contract: it counts up to the most sendings, and both buffers keep their length.
+-- `simulate::sendings` meets its contract: it counts up to the most sendings, and both buffers keep their length.
 use lib.ListN.{length}
 use mathlib.Core.Path.{◌≡◌}
 use Prim.Native.Nat.{◌-◌}

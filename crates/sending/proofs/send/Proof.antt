@@ -1,11 +1,11 @@
--- `download::sending::send` meets its contract: what the printer did is what its step's definition says, its reply kept or lost.
+-- `sending::send` meets its contract: what the printer did is what its step's definition says, its reply kept or lost.
 use mathlib.Core.Path.{ap}
 use native.Mathlib.Omega.{arith}
 use borrow.Author.Tests.{lt-ltb, le-ltb, eq-eqb, ne_eqb}
 use borrow.Author.Rules.{rules}
-use Rattle.download.specs.Sending.{unanswered, sent_of}
-use Rattle.download.proofs.sending.send.Statement.{statement}
-use Rattle.download.proofs.sending.send.Tie as tie
+use Rattle.sending.specs.Sending.{unanswered, sent_of}
+use Rattle.sending.proofs.send.Statement.{statement}
+use Rattle.sending.proofs.send.Tie as tie
 
 abbrev entry : tie.Else1 → tie.Start
 entry c = c.before.before.before.before.before

@@ -1,4 +1,4 @@
--- `download::check::usable` meets its contract: the parts are judged in the definition's order.
+-- `download_check::usable` meets its contract: the parts are judged in the definition's order.
 use Prim.Native.Nat.{◌≤◌, ◌<◌}
 use mathlib.Core.Path.{◌≡◌, sym, ap, ◌∙◌}
 use native.Mathlib.Omega.{arith}
@@ -11,8 +11,8 @@ use Rattle.protocol.specs.Check.{verdict_in}
 use Rattle.protocol.specs.Printer as printer
 use Rattle.protocol.specs.Controller.{settings_verdict, book_verdict}
 use Rattle.protocol.specs.Download.{line_verdict, verdict_of}
-use Rattle.download.proofs.check.usable.Statement.{statement}
-use Rattle.download.proofs.check.usable.Tie as tie
+use Rattle.download_check.proofs.usable.Statement.{statement}
+use Rattle.download_check.proofs.usable.Tie as tie
 
 abbrev entry : tie.After-usable → tie.Start
 entry c = c.before.before.before.before.before.before

@@ -2,12 +2,12 @@
 // the line does.
 ghost use Rattle.std.specs.Prelude.{◌≡◌, get_or};
 ghost use Rattle.protocol.specs.Printer.{lending, leaving};
-ghost use Rattle.download.specs.Sending.{sent_of, quieted};
+ghost use Rattle.sending.specs.Sending.{sent_of, quieted};
 
 use protocol::{Printer, Reaction};
 
 // The byte at place `i`, and 0 where the list has none.
-pub(crate) fn at(list: &[u8], i: usize) -> u8
+pub fn at(list: &[u8], i: usize) -> u8
     ensures { result ≡ get_or list.now i 0 }
 {
     if i < list.len() {

@@ -1,7 +1,7 @@
--- `download::sending::quiet` meets its contract.
+-- `sending::quiet` meets its contract.
 use borrow.Author.Rules.{rules}
-use Rattle.download.proofs.sending.quiet.Statement.{statement}
-use Rattle.download.proofs.sending.quiet.Tie as tie
+use Rattle.sending.proofs.quiet.Statement.{statement}
+use Rattle.sending.proofs.quiet.Tie as tie
 
 enum-known-reaction : tie.Need-enum-known-reaction
 enum-known-reaction c = search rules

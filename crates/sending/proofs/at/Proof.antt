@@ -1,9 +1,9 @@
--- `download::sending::at` meets its contract.
+-- `sending::at` meets its contract.
 use mathlib.Core.Path.{sym}
 use borrow.Author.Rules.{rules}
 use Rattle.octets.specs.Elements.{get_d_past}
-use Rattle.download.proofs.sending.at.Statement.{statement}
-use Rattle.download.proofs.sending.at.Tie as tie
+use Rattle.sending.proofs.at.Statement.{statement}
+use Rattle.sending.proofs.at.Tie as tie
 
 shared-slice-read-result : tie.Need-shared-slice-read-result
 shared-slice-read-result c = search rules

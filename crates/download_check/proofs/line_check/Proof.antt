@@ -1,4 +1,4 @@
--- `download::check::line_check` meets its contract: the verdict on the entries that are left is the verdict on all.
+-- `download_check::line_check` meets its contract: the verdict on the entries that are left is the verdict on all.
 use mathlib.Core.Path.{◌≡◌, refl, sym, ◌∙◌}
 use mathlib.Core.List.{List}
 use Prim.Native.Nat.{ℕ, ◌+◌, ◌-◌, ◌≤◌, ◌<◌}
@@ -11,8 +11,8 @@ use borrow.Author.Tests.{lt-ltb, le-ltb}
 use Rattle.octets.specs.Choice.{pick}
 use Rattle.octets.specs.Front.{fault}
 use Rattle.protocol.specs.Download.{line_verdict}
-use Rattle.download.proofs.check.line_check.Statement.{statement}
-use Rattle.download.proofs.check.line_check.Tie as tie
+use Rattle.download_check.proofs.line_check.Statement.{statement}
+use Rattle.download_check.proofs.line_check.Tie as tie
 
 first_of : (l : List ℕ) (i : ℕ) → i < length l → line_verdict (drop i l) ≡ pick (ltb 2 (get_or l i 0)) (fault 12) (line_verdict (drop (i + 1) l))
 unfolding line_verdict

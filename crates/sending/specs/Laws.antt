@@ -9,7 +9,7 @@ use Rattle.protocol.specs.Printer.{Station, Stepped, stepped, hear, step_of}
 use Rattle.protocol.specs.Printer as printer
 use Rattle.protocol.specs.Download.{Given, hears, steps, passage_by}
 use Rattle.protocol.specs.MachineLaws.Steps.{step_hears}
-use Rattle.download.specs.Sending.{unanswered, sent_by}
+use Rattle.sending.specs.Sending.{unanswered, sent_by}
 
 module _ (g : Given) (y : Station) (q : List ℕ) where
   abbrev pub station_after : Passage → Station

@@ -1,8 +1,8 @@
--- `download::check::book_check` meets its contract.
+-- `download_check::book_check` meets its contract.
 use mathlib.Core.Path.{sym, ◌∙◌}
 use borrow.Author.Rules.{rules}
-use Rattle.download.proofs.check.book_check.Statement.{statement}
-use Rattle.download.proofs.check.book_check.Tie as tie
+use Rattle.download_check.proofs.book_check.Statement.{statement}
+use Rattle.download_check.proofs.book_check.Tie as tie
 
 read-requires : tie.Need-read-requires
 read-requires c κs = search rules
