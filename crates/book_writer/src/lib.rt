@@ -1,4 +1,5 @@
 // Writing a book (document 01, "A book").
+#![tactic(auto)]
 mod table;
 mod writing;
 

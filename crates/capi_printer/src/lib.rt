@@ -1,4 +1,5 @@
 // The printer's step through the C interface.
+#![tactic(auto)]
 ghost use Rattle.std.specs.Prelude.{◌≡◌};
 ghost use Rattle.capi_printer.specs.PrinterEnd.{printer_step, refusal_in, state_after, sent_after};
 

@@ -1,4 +1,5 @@
 // PROFIBUS DP configuration data, read whole: what its modules add up to, and where each begins.
+#![tactic(auto)]
 mod gathering;
 mod lists;
 mod reading;

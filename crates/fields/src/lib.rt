@@ -1,4 +1,5 @@
 // The kinds of telegram as bytes, in the layout of the C interface, and what every writer of it answers.
+#![tactic(auto)]
 mod kinds;
 mod outcome;
 

@@ -1,6 +1,8 @@
 // What every format of the library shares: the answers of readers and writers, a test as a byte, numbers
 // high byte first, storing at the front of a lent slice, and handing back a part of one.
-ghost use Rattle.std.specs.Prelude.{◌≡◌, ◌∷◌, []};
+#![tactic(auto)]
+
+ghost use Rattle.std.specs.Prelude.{◌≡◌, ◌≤◌, ◌∷◌, [], ◌++◌, length, take, drop};
 ghost use Rattle.octets.specs.Bits.{bit_of};
 ghost use Rattle.octets.specs.Number.{number_of, bytes_of};
 ghost use Rattle.octets.specs.Front.{count_of, front_of, count_behind, held_behind};
@@ -78,6 +80,16 @@ pub fn store32(n: u32, out: &mut [u8]) -> usize
     4
 }
 
+// Copies source to the front of out, in which it fits, and answers how many bytes that is.
+fn copy(source: &[u8], out: &mut [u8]) -> usize
+    requires { length source.now ≤ length out.old }
+    ensures count { result ≡ length source.now }
+    ensures bytes { out.new ≡ take (length source.now) source.now ++ drop (length source.now) out.old }
+{
+    out[..source.len()].copy_from_slice(source);
+    source.len()
+}
+
 // Stores source at the front of out, and answers how many bytes it stored: all, or none where they
 // do not fit.
 pub fn store(source: &[u8], out: &mut [u8]) -> usize
@@ -87,7 +99,7 @@ pub fn store(source: &[u8], out: &mut [u8]) -> usize
     if out.len() < source.len() {
         return 0;
     }
-    bytes::copy(source, out)
+    copy(source, out)
 }
 
 // Stores source behind the n bytes in front of out, and answers how many bytes then stand in front:
@@ -102,7 +114,7 @@ pub fn store_behind(n: usize, source: &[u8], out: &mut [u8]) -> usize
     if out.len() - n < source.len() {
         return 0;
     }
-    n + bytes::copy(source, &mut out[n..])
+    n + copy(source, &mut out[n..])
 }
 
 // The part of bytes with len bytes from start, or the empty part where that does not lie inside.

@@ -1,4 +1,5 @@
 // The printer's step over lent bytes (document 01, "Printer rules"), as `protocol` defines it.
+#![tactic(auto)]
 mod hearing;
 mod replies;
 mod slots;

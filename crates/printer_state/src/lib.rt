@@ -1,4 +1,5 @@
 // What a printer may be used with, and what it remembers between two telegrams, as `protocol` defines both.
+#![tactic(auto)]
 mod checking;
 mod state;
 

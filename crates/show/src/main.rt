@@ -1,6 +1,7 @@
 // One telegram in words: its raw bytes come on standard input, and the lines that say what they are go
 // to standard output, as docs/SHOW.md has them. What the bytes mean is the library's; here is only how
 // it is said.
+#![tactic(auto)]
 mod configuration_lines;
 mod control_lines;
 mod diagnosis_lines;

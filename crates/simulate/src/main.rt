@@ -1,5 +1,6 @@
 // One download over a line that loses what it is told to lose, sending by sending (docs/SIMULATE.md). What both
 // ends do is the library's; here is only how it is said.
+#![tactic(auto)]
 mod ending_lines;
 mod input;
 mod sending_line;

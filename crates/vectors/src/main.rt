@@ -1,6 +1,7 @@
 // Telegrams, also those of services, the data of services, template books, fields for the writers of both
 // and whole downloads as hex text on standard input, and the answer to each as a line on standard output:
 // an independent program answers the same text, and the two are compared.
+#![tactic(auto)]
 mod acyclic_line;
 mod answer;
 mod book_line;
