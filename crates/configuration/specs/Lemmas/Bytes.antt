@@ -20,7 +20,7 @@ use Rattle.configuration.specs.declared.fields.Identifier.TheVariants.{General, 
 use Rattle.configuration.specs.declared.fields.Module.{Module}
 use Rattle.configuration.specs.declared.walk.Step.{Step}
 use Rattle.configuration.specs.declared.walk.Step.TheVariants as step
-use Rattle.configuration.specs.declared.reading.Reading.TheVariants.{Configuration, Refused}
+use Rattle.configuration.specs.declared.reading.Reading.TheVariants.{Configuration}
 
 -- ---- how many bytes a side has
 
