@@ -13,7 +13,7 @@ pub struct BitTimes(pub u8);
 pub struct Milliseconds(pub u32);
 
 // The three status bytes that DPV1 adds before the user bytes.
-#[derive(Drop)]
+#[derive(Clone, Copy)]
 pub enum Extension {
     Dpv0,
     Dpv1 {
