@@ -10,9 +10,9 @@ use Rattle.octets.specs.Front.{fine, fault}
 use Rattle.octets.proofs.Fixed.{passed}
 use Rattle.acyclic.specs.Numbers.{idle_number}
 use Rattle.acyclic.specs.Forms.{alone_of, counted_of, counted_as_of, four, by_number, where_allowed}
-use Rattle.acyclic.specs.Lemmas.Forms.{read}
 
 -- ---- the count
+
 pub no_bytes : (l : List ℕ) → length l ≤ 0 → l ≡ []
 no_bytes [] h = refl
 no_bytes (x ∷ xs) h = absurd (omega arith)
@@ -41,7 +41,11 @@ unfolding counted_as_of
 counted_itself least count = simp (eq-eqb count count refl)
 
 -- ---- from the fields
+
 module _ {A : Type 0} (refuse : ℕ → A) (none : A) (allowed : ℕ → Bool) (idle : ℕ → A) (four_bytes : (n a b l count : ℕ) → A) where
+  abbrev read : List ℕ → A
+  read s = where_allowed refuse none allowed (by_number refuse idle four_bytes s) s
+
   pub read_four : (n a b l : ℕ) (part : List ℕ) → allowed n ≡ true → eqb n idle_number ≡ false → read (four n a b l ++ part) ≡ four_bytes n a b l (length part)
   unfolding by_number where_allowed
   read_four n a b l part good other =
