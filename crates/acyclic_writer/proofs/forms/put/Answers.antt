@@ -1,7 +1,7 @@
 -- `acyclic_writer::forms::put` meets its contract. Four bytes are stored in turn.
 use native.Mathlib.Omega.{arith}
 use lib.ListN.{length-set}
-use Rattle.octets.specs.Front.{stores}
+use Rattle.octets.proofs.Front.{stores}
 use Rattle.acyclic_writer.specs.Forms.{front_bytes}
 use Rattle.acyclic_writer.proofs.forms.put.Goals as goal
 

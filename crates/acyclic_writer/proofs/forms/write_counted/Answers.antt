@@ -3,9 +3,10 @@ use mathlib.Core.Path.{◌≡◌, sym}
 use mathlib.Core.List.{◌++◌}
 use native.Mathlib.Omega.{arith}
 use lib.ListN.{length}
-use Rattle.octets.specs.Front.{fine, refused}
+use Rattle.octets.specs.Front.{fine}
+use Rattle.octets.proofs.Front.{refused}
 use Rattle.acyclic.specs.Forms.{counted_of, four}
-use Rattle.acyclic.specs.Lemmas.Forms.{counted_within}
+use Rattle.acyclic.proofs.Lemmas.Forms.{counted_within}
 use Rattle.acyclic_writer.proofs.forms.write_counted.Goals as goal
 
 pub overflow_cast-length : goal.overflow_cast-length

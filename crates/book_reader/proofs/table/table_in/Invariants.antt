@@ -1,7 +1,7 @@
 -- `book_reader::table::table_in` meets its contract. The loop's invariant is that of a table that is judged, over every second byte.
 use Prim.Native.Nat.{◌+◌, ◌*◌, ◌-◌, ◌≤◌}
 use Rattle.book.specs.Table.{every_second, table_of}
-use Rattle.book.specs.Lemmas.Running.{Running}
+use Rattle.book.proofs.Lemmas.Running.{Running}
 use Rattle.book_reader.proofs.table.table_in.Given as goal
 
 abbrev pub invariant-loop-k : goal.invariant-loop-k

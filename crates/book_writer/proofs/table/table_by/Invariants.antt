@@ -7,7 +7,7 @@ use native.Mathlib.Numerals.{add-one}
 use lib.ListN.{length, get_or, drop}
 use lib.Seq.{drop-cons, drop-length}
 use Rattle.book.specs.Table.{table_of}
-use Rattle.book.specs.Lemmas.Running.{Running, done}
+use Rattle.book.proofs.Lemmas.Running.{Running, done}
 use Rattle.book.specs.declared.table.Table.{Table}
 use Rattle.book.specs.declared.table.Table.TheVariants.{Total}
 use Rattle.book_writer.proofs.table.table_by.Given as goal

@@ -1,7 +1,7 @@
 -- `book_writer::writing::put` meets its contract. Two stores: the bodies behind the table.
 use mathlib.Core.List.{◌∷◌}
 use lib.ListN.{length}
-use Rattle.octets.specs.Front.{first_fits, both_stored}
+use Rattle.octets.proofs.Front.{first_fits, both_stored}
 use Rattle.book.specs.Writing.{pairs_of}
 use Rattle.book_writer.proofs.writing.put.Goals as goal
 

@@ -4,9 +4,10 @@ use Prim.Native.Nat.{◌+◌, ◌*◌}
 use native.Mathlib.Omega.{arith}
 use lib.ListN.{length}
 use borrow.Author.Tests.{eq-eqb, ne_eqb}
-use Rattle.octets.specs.Front.{fine, fault, refused, too_small, stored}
+use Rattle.octets.specs.Front.{fine, fault}
+use Rattle.octets.proofs.Front.{refused, too_small, stored}
 use Rattle.book.specs.Writing.{book_bytes, bodies_verdict}
-use Rattle.book.specs.Lemmas.Parts.{book_long}
+use Rattle.book.proofs.Lemmas.Parts.{book_long}
 use Rattle.book_writer.proofs.writing.write_judged.Goals as goal
 
 pub returns-then-bodies-total : goal.returns-then-bodies-total
