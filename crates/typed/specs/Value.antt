@@ -84,7 +84,7 @@ abbrev pub boolean_byte : Bool → ℕ
 boolean_byte true = 0xFF
 boolean_byte false = 0x00
 
--- the pattern of a value: a signed number is in two's complement, a floating_point value has its 32 bits
+-- the pattern of a value: a signed number is in two's complement, a floating-point value has its 32 bits
 abbrev pub pattern_in : Value → ℕ
 pattern_in (Boolean b) = boolean_byte b
 pattern_in (I8 z) = of_z w8 z

@@ -1,4 +1,4 @@
--- Writing a typed value: its code, then its pattern, high byte first. Only a floating_point value can be refused: a NaN
+-- Writing a typed value: its code, then its pattern, high byte first. Only a floating-point value can be refused: a NaN
 -- as an `f32`, whose bits cannot be had, and bits that are no NaN's.
 use Rattle.std.specs.Prelude.{ℕ, not, List, ◌∷◌}
 use Rattle.std.specs.Float.Ieee.{is_nan}
