@@ -5,3 +5,4 @@ pub mod Calls
 pub mod Answers
 pub mod Bytes
 pub mod Refusals
+pub mod Lemmas

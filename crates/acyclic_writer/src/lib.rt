@@ -1,5 +1,6 @@
 // Writing calls and answers of DPV1 (document 01, "DPV1"), held to the definitions of the crate acyclic.
 #![tactic(auto)]
+
 mod answers;
 mod calls;
 mod forms;

@@ -1,5 +1,6 @@
 // Reading a book and finding a template in it (document 01, "A book").
 #![tactic(auto)]
+
 mod reading;
 mod table;
 mod templates;

@@ -1,5 +1,6 @@
 // Writing a book (document 01, "A book").
 #![tactic(auto)]
+
 mod table;
 mod writing;
 

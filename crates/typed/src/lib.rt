@@ -1,6 +1,7 @@
 // Typed values: a code byte and the bytes of a value, high byte first (document 01, "Typed values"): what they are, and the
 // definitions and laws of both ways.
 #![tactic(auto)]
+
 mod reading;
 mod value;
 
