@@ -1,6 +1,7 @@
 // The services by access point (document 01, "Services by access point"): their types, and the definitions
 // and laws of the list and of a telegram's route; the crate access_table has the list, and routing the route.
 #![tactic(auto)]
+
 mod route;
 mod table;
 

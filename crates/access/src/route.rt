@@ -2,7 +2,7 @@
 use crate::table::Service;
 
 // What a function code may carry: a service's call, Global_Control, a service's answer, or none.
-#[derive(Drop)]
+#[derive(Clone, Copy)]
 pub enum Kind {
     Call,
     Command,
@@ -11,7 +11,7 @@ pub enum Kind {
 }
 
 // The services that answer with data.
-#[derive(Drop)]
+#[derive(Clone, Copy)]
 pub enum Answering {
     DataExchange,
     Dpv1,
@@ -22,7 +22,7 @@ pub enum Answering {
 }
 
 // Where a telegram's user data belong.
-#[derive(Drop)]
+#[derive(Clone, Copy)]
 pub enum Route {
     Call(Service),
     Answer(Answering),

@@ -2,7 +2,7 @@
 use fdl::Sap;
 
 // The services of DP. Data_Exchange alone has no access points.
-#[derive(Drop)]
+#[derive(Clone, Copy)]
 pub enum Service {
     DataExchange,
     Dpv1,
@@ -44,7 +44,7 @@ pub const CHK_CFG: u8 = 62;
 pub const MASTER: u8 = 62;
 
 // A pair of access points, the slave's and the master's, and its service.
-#[derive(Drop)]
+#[derive(Clone, Copy)]
 pub struct Row {
     pub slave: u8,
     pub master: u8,
@@ -52,14 +52,14 @@ pub struct Row {
 }
 
 // The service that a pair of access points names.
-#[derive(Drop)]
+#[derive(Clone, Copy)]
 pub enum Named {
     Is(Service),
     Nothing,
 }
 
 // The access points of a service, the slave's and the master's.
-#[derive(Drop)]
+#[derive(Clone, Copy)]
 pub struct Points {
     pub slave: Sap,
     pub master: Sap,

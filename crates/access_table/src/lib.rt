@@ -1,6 +1,7 @@
 // The list of access points (document 01, "Services by access point"): each slave's access point has one
 // service.
 #![tactic(auto)]
+
 ghost use Rattle.std.specs.Prelude.{◌≡◌, ◌<◌};
 ghost use Rattle.access.specs.Table.{look, services, points_in, row_at, points_of};
 

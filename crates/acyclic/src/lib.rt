@@ -1,6 +1,7 @@
 // Acyclic services of DPV1 (document 01, "DPV1"): what calls and answers are, and the definitions and laws of both
 // ways. Their code stands in acyclic_forms, acyclic_reader and acyclic_writer.
 #![tactic(auto)]
+
 mod answers;
 mod calls;
 mod forms;

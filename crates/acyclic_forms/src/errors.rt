@@ -16,6 +16,7 @@ pub(crate) fn good_decode(decode: u8) -> bool
 }
 
 // Whether an error class of PROFIBUS DP has an error code.
+#[tactic(auto, unfolding(acyclic::specs::Errors::named_in))]
 fn named_in(class: u8, code: u8) -> bool
     ensures { result ≡ named_in class code }
 {

@@ -20,6 +20,7 @@ pub fn negative_number(function: Function) -> u8
 }
 
 // The other way round: the function whose negative answer has this number.
+#[tactic(auto, unfolding(acyclic::specs::Numbers::failed_by))]
 pub fn failed_by(number: u8) -> Failed
     ensures { result ≡ failed_by number }
 {

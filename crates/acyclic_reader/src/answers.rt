@@ -43,6 +43,7 @@ fn negative_by(number: u8, decode: u8, code1: u8, code2: u8, count: usize) -> An
 }
 
 // The answer of four fixed bytes, as its number has them read, with count bytes behind them.
+#[tactic(auto, unfolding(acyclic::specs::Answers::four_of))]
 fn four(number: u8, slot: u8, index: u8, last: u8, count: usize) -> AnswerReading
     ensures { result ≡ four_of number slot index last count }
 {

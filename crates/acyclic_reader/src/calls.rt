@@ -23,6 +23,7 @@ fn call_at(start: usize, count: usize, check: Check, call: Call) -> CallReading
 
 // The call of four fixed bytes, as its number has them read, with count bytes behind them. A number
 // that no such call has is reserved.
+#[tactic(auto, unfolding(acyclic::specs::Calls::four_of))]
 fn four(number: u8, slot: u8, index: u8, last: u8, count: usize) -> CallReading
     ensures { result ≡ four_of number slot index last count }
 {

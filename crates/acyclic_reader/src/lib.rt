@@ -1,5 +1,6 @@
 // Reading calls and answers of DPV1 (document 01, "DPV1").
 #![tactic(auto)]
+
 mod answers;
 mod calls;
 

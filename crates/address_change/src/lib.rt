@@ -1,5 +1,6 @@
 // Set_Slave_Adr (document 01, "Services by access point"): the change of a slave's address.
 #![tactic(auto)]
+
 ghost use Rattle.std.specs.Prelude.{◌≡◌, ◌≤◌, length};
 ghost use Rattle.octets.specs.Front.{AtFront, answer_by, held_by};
 ghost use Rattle.address_change.specs.Address.{read_of, fixed_bytes, bytes_for, verdict_for};

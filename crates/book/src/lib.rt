@@ -1,6 +1,7 @@
 // A book of templates (document 01, "A book"): what reading and finding answer, and the judgment that its reader and
 // its writer share.
 #![tactic(auto)]
+
 mod answers;
 mod table;
 

@@ -4,7 +4,7 @@ ghost use Rattle.configuration.specs.Fields.{length_of};
 
 // What a module has on one side: nothing, or so many units (1 to 64, in the general format 1 to 16),
 // each a byte or a word of two, with or without consistency over all of them.
-#[derive(Drop)]
+#[derive(Clone, Copy)]
 pub enum Side {
     Absent,
     Present {
@@ -16,7 +16,7 @@ pub enum Side {
 
 // The format of the identifier that a module begins with. The general one is a single byte; the
 // special one has a length byte for each side and vendor bytes.
-#[derive(Drop)]
+#[derive(Clone, Copy)]
 pub enum Identifier {
     General,
     Special,
@@ -24,7 +24,7 @@ pub enum Identifier {
 
 // A module, but for the vendor bytes of the special format. With them the fields are complete: no two
 // modules that differ in a byte have the same.
-#[derive(Drop)]
+#[derive(Clone, Copy)]
 pub struct Module {
     pub identifier: Identifier,
     pub input: Side,

@@ -2,6 +2,7 @@
 // ways. The crate configuration_walk goes over the modules, configuration_reader reads it whole, and
 // configuration_writer writes.
 #![tactic(auto)]
+
 mod fields;
 mod reading;
 mod walk;

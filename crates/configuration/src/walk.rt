@@ -3,7 +3,7 @@ use crate::fields::Module;
 use octets::Refusal;
 
 // Where a module begins.
-#[derive(Drop)]
+#[derive(Clone, Copy)]
 pub struct Position {
     pub at: usize,
 }

@@ -1,5 +1,6 @@
 // A walk over the modules of PROFIBUS DP configuration data, one at a time.
 #![tactic(auto)]
+
 ghost use Rattle.std.specs.Prelude.{◌≡◌, ◌+◌, ◌≤◌, ◌<◌, length, get_or, drop};
 ghost use Rattle.configuration.specs.Fields.{side_if, general_of, length_byte};
 ghost use Rattle.configuration.specs.Walk.{first_position, step_of, special_in, next_of};

@@ -12,7 +12,7 @@ pub const MODULE_BLOCK: u8 = 1;
 pub const CHANNEL_BLOCK: u8 = 2;
 
 // The kinds of block.
-#[derive(Drop)]
+#[derive(Clone, Copy)]
 pub enum Kind {
     Device,
     Module,
@@ -20,7 +20,7 @@ pub enum Kind {
 }
 
 // What the walk over the blocks needs of one: len counts the header.
-#[derive(Drop)]
+#[derive(Clone, Copy)]
 pub struct Extent {
     pub kind: Kind,
     pub len: usize,

@@ -1,6 +1,7 @@
 // Slave diagnosis (document 01, "Diagnosis"): its fields, and the definitions and laws of both ways. The crates
 // diagnosis_reader and diagnosis_writer have it whole, diagnosis_walk and diagnosis_block_writer block by block.
 #![tactic(auto)]
+
 mod block;
 mod map;
 mod reading;

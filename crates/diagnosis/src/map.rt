@@ -1,5 +1,5 @@
 // What the map of a module block says: the lowest module that reports, if one does.
-#[derive(Drop)]
+#[derive(Clone, Copy)]
 pub enum Lowest {
     Module(usize),
     Nothing,

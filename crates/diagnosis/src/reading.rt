@@ -2,7 +2,7 @@
 use octets::Refusal;
 
 // The six bytes that every diagnosis has. The master is its address, 255 for none.
-#[derive(Drop)]
+#[derive(Clone, Copy)]
 pub struct Header {
     pub status1: u8,
     pub status2: u8,

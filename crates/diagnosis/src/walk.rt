@@ -4,7 +4,7 @@ use crate::map::Lowest;
 use octets::Refusal;
 
 // The fields of a channel block.
-#[derive(Drop)]
+#[derive(Clone, Copy)]
 pub struct Channel {
     // 0 to 63
     pub module: u8,
@@ -20,7 +20,7 @@ pub struct Channel {
 
 // A block. The bytes after a header that has a length are the len bytes from start, which
 // `octets::part` hands back.
-#[derive(Drop)]
+#[derive(Clone, Copy)]
 pub enum Block {
     Device {
         start: usize,
@@ -37,7 +37,7 @@ pub enum Block {
 }
 
 // Where a block begins, or the blocks end.
-#[derive(Drop)]
+#[derive(Clone, Copy)]
 pub struct Position {
     pub at: usize,
 }

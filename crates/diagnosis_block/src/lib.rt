@@ -1,6 +1,7 @@
 // What stands at a place where a block of a diagnosis may begin (document 01, "Diagnosis"): reading and the
 // walk find each block alike.
 #![tactic(auto)]
+
 ghost use Rattle.std.specs.Prelude.{◌≡◌, ◌+◌, ◌-◌, ◌<◌, length, get_or};
 ghost use Rattle.diagnosis.specs.Block.{sized_of, device_of, channel_of, found_at};
 

@@ -1,6 +1,7 @@
 // PROFIBUS data link (FDL) telegrams (document 01, "Telegram layouts"): their fields, their checksum, and the
 // definitions and laws of both ways; the crate fdl_reader reads, framing and fdl_writer write.
 #![tactic(auto)]
+
 mod reading;
 mod telegram;
 

@@ -14,7 +14,7 @@ pub const SD4: u8 = 0xDC;
 pub const SC: u8 = 0xE5;
 
 // The start byte's format of a telegram with fields.
-#[derive(Drop)]
+#[derive(Clone, Copy)]
 pub enum Format {
     Sd1,
     Sd2,
@@ -22,14 +22,14 @@ pub enum Format {
 }
 
 // A service access point (SAP), where the address has the bit that says that one follows.
-#[derive(Drop)]
+#[derive(Clone, Copy)]
 pub enum Sap {
     Absent,
     Present(u8),
 }
 
 // Addresses are the low seven bits; bit 7 is the presence of the access point.
-#[derive(Drop)]
+#[derive(Clone, Copy)]
 pub struct Header {
     pub da: u8,
     pub sa: u8,

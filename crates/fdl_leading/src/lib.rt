@@ -1,5 +1,6 @@
 // What the bytes in front of DA say: the start byte, and the length bytes of SD2, each refused by a return of its own.
 #![tactic(auto)]
+
 ghost use Rattle.std.specs.Prelude.{◌≡◌};
 ghost use Rattle.fdl_leading.specs.Leading.{sd2_leading, leading_of};
 

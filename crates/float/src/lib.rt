@@ -1,6 +1,7 @@
 // Patterns of 32 bits and the floating-point numbers that they stand for. The language has one NaN
 // and no way from a NaN's pattern to an `f32` or back, so such a pattern stays a number here.
 #![tactic(auto)]
+
 ghost use Rattle.std.specs.Prelude.{◌≡◌};
 ghost use Rattle.float.specs.Float.{is_nan_pattern, floating_of, pattern_of};
 

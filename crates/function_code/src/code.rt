@@ -7,7 +7,7 @@ use crate::table::{BARE, COUNTED, DATA, OPENING, RESERVED, UNCOUNTED, class_numb
 // What kind of telegram a function code makes. An opening call starts the count of a pair of
 // stations (FCB 1), a counted call goes on with it, an uncounted call is outside of it; an answer is
 // bare or carries data.
-#[derive(Drop)]
+#[derive(Clone, Copy)]
 pub enum Class {
     Opening,
     Counted,

@@ -1,5 +1,6 @@
 // Function codes of data link telegrams (document 01, "Function codes"): the class of each.
 #![tactic(auto)]
+
 mod code;
 mod table;
 

@@ -23,7 +23,7 @@ pub enum Written {
 }
 
 // Which of the two versions of DP the caller speaks.
-#[derive(Drop)]
+#[derive(Clone, Copy)]
 pub enum Mode {
     Dpv0,
     Dpv1,

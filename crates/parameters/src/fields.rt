@@ -6,14 +6,14 @@ use octets::Mode;
 
 // A time counted in bits on the line. How long a bit takes is the line's speed to say, so this is
 // no number of milliseconds, and the compiler takes neither for the other.
-#[derive(Drop)]
+#[derive(Clone, Copy)]
 pub struct BitTimes(pub u8);
 
-#[derive(Drop)]
+#[derive(Clone, Copy)]
 pub struct Milliseconds(pub u32);
 
 // The three status bytes that DPV1 adds before the user bytes.
-#[derive(Drop)]
+#[derive(Clone, Copy)]
 pub enum Extension {
     Dpv0,
     Dpv1 {
@@ -24,7 +24,7 @@ pub enum Extension {
 }
 
 // The fixed bytes. The watchdog's two factors stay apart, since their product does not give them back.
-#[derive(Drop)]
+#[derive(Clone, Copy)]
 pub struct Parameters {
     pub flags: u8,
     pub factor1: u8,

@@ -1,6 +1,7 @@
 // Parameters of a slave (Set_Prm; document 01, "Parameters"): their fields, the times that they set, and the
 // definitions and laws of both ways; the crate parameters_reader reads, and parameters_writer writes.
 #![tactic(auto)]
+
 mod fields;
 mod reading;
 mod timing;

@@ -1,6 +1,7 @@
 // Which service a telegram's function code and access points name, and which way it goes (document 01,
 // "Services by access point").
 #![tactic(auto)]
+
 ghost use Rattle.std.specs.Prelude.{◌≡◌};
 ghost use Rattle.access.specs.Route.{uncounted_kind, kind_by, kind_of, named_by, is_global_control, call_route, command_route, answer_from, answer_route, points_with, points_by, way_by, route_by, header_with, header_of, service_route};
 

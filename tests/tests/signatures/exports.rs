@@ -4,7 +4,7 @@ use super::{files, listed, Functions, Number, Parameter, Passed, Signature};
 use std::fs;
 use std::path::Path;
 
-const MARK: &str = "#[no_mangle]\n";
+const MARK: &str = "#[unsafe(no_mangle)]\n";
 
 /// The exports of all crates.
 pub fn all(root: &Path) -> Functions {

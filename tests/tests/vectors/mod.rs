@@ -51,7 +51,7 @@ fn check_answers(vectors: &str, answers: &str, expected: &str) {
 fn run_program(vectors: &str) -> Output {
     let program = match env::var_os(PROGRAM_VARIABLE) {
         Some(program) => PathBuf::from(program),
-        None => repository::root().join("target/bin/vectors"),
+        None => repository::root().join("crates/vectors/out/vectors"),
     };
     let mut child = Command::new(&program)
         .stdin(Stdio::piped())

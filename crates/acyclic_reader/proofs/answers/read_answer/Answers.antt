@@ -1,0 +1,36 @@
+-- `acyclic_reader::answers::read_answer` meets its contract. The definition has the same tests in the same order.
+use mathlib.Core.Path.{◌≡◌, sym, ap, ◌∙◌}
+use mathlib.Core.Bool.{not}
+use borrow.Author.Tests.{lt-ltb, le-ltb, eq-eqb, ne_eqb}
+use Rattle.acyclic.specs.Forms.{by_number, where_allowed}
+use Rattle.acyclic.specs.Answers.{refused, idle_of, four_of, read_answer_of}
+use Rattle.acyclic_reader.proofs.answers.read_answer.Goals as goal
+
+pub returns-then-bytes-eq0 : goal.returns-then-bytes-eq0
+unfolding where_allowed read_answer_of
+returns-then-bytes-eq0 c = simp (eq-eqb _ _ c.if-bytes-eq0.true)
+
+pub returns-then-not-allowed_in_answers : goal.returns-then-not-allowed_in_answers
+unfolding where_allowed read_answer_of
+returns-then-not-allowed_in_answers c =
+    simp (ne_eqb _ _ c.if-bytes-eq0.false, ap not (sym c.allowed_in_answers.ensures ∙ c.if-not-allowed_in_answers.true))
+
+pub returns-then-number-eq-IDLE : goal.returns-then-number-eq-IDLE
+unfolding by_number where_allowed read_answer_of
+returns-then-number-eq-IDLE c =
+    let allowed : let s = c.args.bytes.now in read_answer_of s ≡ by_number refused idle_of four_of s = simp (ne_eqb _ _ c.if-bytes-eq0.false, ap not (sym c.allowed_in_answers.ensures ∙ c.if-not-allowed_in_answers.false)) in
+    let t = c in
+    (rw c.alone.ensures at c.answer_at.ensures) ∙ sym (allowed ∙ simp (eq-eqb _ _ t.if-number-eq-IDLE.true))
+
+pub returns-then-bytes-lt4 : goal.returns-then-bytes-lt4
+unfolding by_number where_allowed read_answer_of
+returns-then-bytes-lt4 c =
+    let allowed : let s = c.args.bytes.now in read_answer_of s ≡ by_number refused idle_of four_of s = simp (ne_eqb _ _ c.if-bytes-eq0.false, ap not (sym c.allowed_in_answers.ensures ∙ c.if-not-allowed_in_answers.false)) in
+    sym (allowed ∙ simp (ne_eqb _ _ c.if-number-eq-IDLE.false, lt-ltb _ _ c.if-bytes-lt4.true))
+
+pub returns : goal.returns
+unfolding by_number where_allowed read_answer_of
+returns c =
+    let allowed : let s = c.args.bytes.now in read_answer_of s ≡ by_number refused idle_of four_of s = simp (ne_eqb _ _ c.if-bytes-eq0.false, ap not (sym c.allowed_in_answers.ensures ∙ c.if-not-allowed_in_answers.false)) in
+    let e = c in
+    c.four.ensures ∙ sym (allowed ∙ simp (ne_eqb _ _ e.if-number-eq-IDLE.false, le-ltb _ _ e.if-bytes-lt4.false))

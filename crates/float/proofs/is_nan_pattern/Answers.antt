@@ -1,0 +1,8 @@
+-- `float::is_nan_pattern` meets its contract: one comparison tells the patterns of a NaN.
+use mathlib.Core.Path.{sym}
+use lib.Ieee.{binary32}
+use lib.Ieee.Bits.{nan_bits_above}
+use Rattle.float.proofs.is_nan_pattern.Goals as goal
+
+pub returns : goal.returns
+returns c = sym (nan_bits_above binary32 c.args.bits)
