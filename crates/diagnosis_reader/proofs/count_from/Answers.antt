@@ -6,8 +6,8 @@ use native.Mathlib.Omega.{arith}
 use lib.ListN.{length}
 use Rattle.diagnosis.specs.Block.{found_at}
 use Rattle.diagnosis.specs.Reading.{counted}
-use Rattle.diagnosis.specs.Lemmas.Found.{Within, within_at}
-use Rattle.diagnosis.specs.Lemmas.Blocks.{blocks_more, blocks_bad, blocks_end}
+use Rattle.diagnosis.proofs.Lemmas.Found.{Within, within_at}
+use Rattle.diagnosis.proofs.Lemmas.Blocks.{blocks_more, blocks_bad, blocks_end}
 use Rattle.diagnosis.specs.declared.block.Found.TheVariants.{Is}
 use Rattle.diagnosis_reader.proofs.count_from.Goals as goal
 

@@ -10,7 +10,7 @@ use Rattle.octets.specs.Front.{fault}
 use Rattle.octets.specs.Fixed.{judged}
 use Rattle.parameters.specs.Fields.{fixed_length, good_response, extension_verdict, verdict_of}
 use Rattle.parameters.specs.Reading.{refused, extension_in, answer_in, extension_of, read_of}
-use Rattle.parameters.specs.Lemmas.Fields.{fixed_least}
+use Rattle.parameters.proofs.Lemmas.Fields.{fixed_least}
 use Rattle.parameters_reader.proofs.read.Goals as goal
 
 pub returns-then-bytes-fixed_length : goal.returns-then-bytes-fixed_length

@@ -4,7 +4,7 @@ use mathlib.Core.Path.{refl, sym, ap, ◌∙◌}
 use native.Mathlib.Omega.{arith}
 use Rattle.configuration.specs.Reading.{input_of, output_of, totals_of, offsets_by}
 use Rattle.configuration.specs.Contents.{Stands}
-use Rattle.configuration.specs.Lemmas.Steps.{stands, ends, breaks}
+use Rattle.configuration.proofs.Lemmas.Steps.{stands, ends, breaks}
 use Rattle.configuration_reader.proofs.Running.{begins, goes, done}
 use Rattle.configuration_reader.proofs.gathering.gather.Goals as goal
 

@@ -5,7 +5,8 @@ use Prim.Native.Nat.{ℕ, ◌+◌}
 use native.Mathlib.Omega.{arith}
 use lib.ListN.{length}
 use borrow.Author.Tests.{lt-ltb, le-ltb}
-use Rattle.octets.specs.Front.{fine, refused, too_small, stored}
+use Rattle.octets.specs.Front.{fine}
+use Rattle.octets.proofs.Front.{refused, too_small, stored}
 use Rattle.diagnosis.specs.Writing.{sized_verdict}
 use Rattle.diagnosis_block_writer.proofs.writing.write_sized.Goals as goal
 

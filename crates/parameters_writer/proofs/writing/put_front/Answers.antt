@@ -3,10 +3,10 @@ use mathlib.Core.List.{[], ◌∷◌, ◌++◌}
 use Prim.Native.Nat.{◌≤◌}
 use native.Mathlib.Omega.{arith}
 use lib.ListN.{length, length-set}
-use Rattle.octets.specs.Front.{stores}
+use Rattle.octets.proofs.Front.{stores}
 use Rattle.parameters.specs.Fields.{mode_of}
 use Rattle.parameters.specs.Writing.{fixed_bytes}
-use Rattle.parameters.specs.Lemmas.Fields.{fixed_least}
+use Rattle.parameters.proofs.Lemmas.Fields.{fixed_least}
 use Rattle.parameters_writer.proofs.writing.put_front.Goals as goal
 
 pub bounds-out-0 : goal.bounds-out-0
