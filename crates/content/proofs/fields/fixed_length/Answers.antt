@@ -2,8 +2,5 @@
 use borrow.Author.Rules.{rules}
 use Rattle.content.proofs.fields.fixed_length.Goals as goal
 
-pub returns-in-DataExchange : goal.returns-in-DataExchange
-returns-in-DataExchange c = search rules
-
 pub returns-in-SetPrm : goal.returns-in-SetPrm
-returns-in-SetPrm c = simp c.content3.given.1 c.parameters_length.ensures
+returns-in-SetPrm c = simp c.in-SetPrm.is c.parameters_length.ensures
