@@ -23,6 +23,7 @@ fn good_code(code: u8) -> bool
 }
 
 // How many bytes follow a code.
+#[tactic(auto, unfolding(typed::specs::Value::kind_of))]
 fn width(code: u8) -> usize
     ensures { result ≡ width_of code }
 {
