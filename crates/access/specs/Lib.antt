@@ -2,4 +2,3 @@ pub mod Table
 pub mod Route
 pub mod Laws
 pub mod Headers
-pub mod Routed

@@ -4,7 +4,4 @@ pub mod Forms
 pub mod Calls
 pub mod Answers
 pub mod Bytes
-pub mod Lemmas
-pub mod Laws
 pub mod Refusals
-pub mod Accepted

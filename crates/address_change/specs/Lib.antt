@@ -1,5 +1,2 @@
 pub mod Address
-pub mod Lemmas
-pub mod Laws
-pub mod Refusals
 pub mod Accepted

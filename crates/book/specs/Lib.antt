@@ -3,7 +3,4 @@ pub mod Reading
 pub mod Template
 pub mod Writing
 pub mod Contents
-pub mod Lemmas
-pub mod Laws
 pub mod Refusals
-pub mod Accepted

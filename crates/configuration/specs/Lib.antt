@@ -4,7 +4,3 @@ pub mod Reading
 pub mod Writing
 pub mod Contents
 pub mod Bytes
-pub mod Lemmas
-pub mod Laws
-pub mod Refusals
-pub mod Accepted

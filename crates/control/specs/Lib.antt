@@ -1,5 +1,2 @@
 pub mod Command
-pub mod Lemmas
-pub mod Laws
-pub mod Refusals
 pub mod Accepted

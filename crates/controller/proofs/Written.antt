@@ -8,12 +8,12 @@ use lib.Dec.{ltb, leb}
 use lib.ListN.{length}
 use borrow.Rule.Slice.PartMut.{mid_of, put_mid}
 use borrow.Author.Tests.{ltb-true, ltb-false, le-leb, lt-leb, lt-ltb}
-use Rattle.octets.specs.Choice.{by_pick}
+use Rattle.octets.proofs.Choice.{by_pick}
 use Rattle.octets.specs.Front.{fine, AtFront, answer_by, held_by}
-use Rattle.octets.specs.Fixed.{fault_fine}
+use Rattle.octets.proofs.Fixed.{fault_fine}
 use Rattle.octets.specs.declared.Written.{Written}
 use Rattle.fdl.specs.Around.{user_in, good_fields}
-use Rattle.fdl.specs.Lemmas.Around.{fit}
+use Rattle.fdl.proofs.Lemmas.Around.{fit}
 use Rattle.fdl.specs.Writing.{telegram_of, user_start}
 use Rattle.fdl.specs.Writing as telegram
 use Rattle.fdl.specs.declared.telegram.Format.{Format}
@@ -23,11 +23,11 @@ use Rattle.acyclic.specs.declared.calls.Call.TheVariants as call
 use Rattle.content.specs.Fields.{fixed_length}
 use Rattle.content.specs.declared.fields.Content.{Content}
 use Rattle.content.specs.declared.fields.Content.TheVariants as content
-use Rattle.service.specs.Lemmas.Placed.{data_placed}
-use Rattle.service.specs.Lemmas.Verdict.{bad_fields}
+use Rattle.service.proofs.Lemmas.Placed.{data_placed}
+use Rattle.service.proofs.Lemmas.Verdict.{bad_fields}
 use Rattle.service.specs.Writing.{header_for, verdict_of}
 use Rattle.protocol.specs.Line.{go}
-use Rattle.protocol.specs.Lemmas.Read.{write_fine}
+use Rattle.protocol.proofs.Lemmas.Read.{write_fine}
 use Rattle.protocol.specs.Telegrams.{counted_code}
 use Rattle.protocol.specs.Check.{stored_in}
 use Rattle.protocol.specs.Controller.{acted, leaving}

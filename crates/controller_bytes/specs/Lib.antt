@@ -1,3 +1,2 @@
 pub mod Endings
-pub mod Laws
 pub mod State

@@ -9,7 +9,7 @@ use lib.ListN.{length, drop}
 use types.Run.{OneOf, miss}
 use denote.Enum.Declared as Declared
 use borrow.Author.Tests.{ltb-true, ltb-false}
-use Rattle.octets.specs.Choice.{and_left, and_right, never}
+use Rattle.octets.proofs.Choice.{and_left, and_right, never}
 use Rattle.book.specs.Contents.{Entry}
 use Rattle.protocol.specs.Line.{stop}
 use Rattle.protocol.specs.Controller.{Got, nothing, confirmation, diagnosis, positive, negative, other, ask_for, again, poll_again, after_write, after_opening, after_job}

@@ -3,15 +3,16 @@ use Rattle.std.specs.Prelude.{ℕ, ◌≤◌, ◌≡◌, refl, Bool, List, ltb, 
 use Rattle.std.proofs.Common.{sym, ap, ◌∙◌, ltb-false}
 use Rattle.octets.specs.Choice.{pick}
 use Rattle.octets.specs.Front.{Verdict, fine, fault}
-use Rattle.octets.specs.Fixed.{judged, passed, fault_fine}
+use Rattle.octets.specs.Fixed.{judged}
+use Rattle.octets.proofs.Fixed.{passed, fault_fine}
 use Rattle.book.specs.Contents.{templates_of}
-use Rattle.book.specs.Laws.{templates_in_order}
+use Rattle.book.proofs.Laws.{templates_in_order}
 use Rattle.book.specs.Reading.{read_of}
 use Rattle.book.specs.declared.answers.Reading.{Reading}
 use Rattle.book.specs.declared.answers.Reading.TheVariants as reading
 use Rattle.protocol.specs.Controller.{settings_verdict, book_verdict, wrong_fcb, too_many_polls, state_verdict, verdict_of}
 use Rattle.protocol.specs.Verdicts.{Settled}
-use Rattle.protocol.specs.Lemmas.Accepted.{both_fine, settled}
+use Rattle.protocol.proofs.Lemmas.Accepted.{both_fine, settled}
 use Rattle.protocol.specs.declared.controller.Settings.{Settings}
 use Rattle.protocol.specs.declared.controller.Job.{Job}
 use Rattle.protocol.specs.declared.controller.Controller.{Controller}

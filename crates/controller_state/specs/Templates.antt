@@ -5,7 +5,7 @@ use borrow.Author.Tests.{ltb-true, ltb-false, lt-ltb, le-ltb}
 use Rattle.octets.specs.Part.{part_of}
 use Rattle.octets.specs.declared.Refusal.{Refusal}
 use Rattle.book.specs.Contents.{Entry, InOrder, templates_of}
-use Rattle.book.specs.Laws.{templates_in_order, template_is, listed_is}
+use Rattle.book.proofs.Laws.{templates_in_order, template_is, listed_is}
 use Rattle.book.specs.Template.{refused, listed_of, template_of, start_of}
 use Rattle.book.specs.declared.answers.Template.{Template}
 use Rattle.book.specs.declared.answers.Template.TheVariants.{Is, Refused}

@@ -13,7 +13,7 @@ use lib.Count.{ones, ones_step, ones_in, under, count_trailing_zeros}
 use borrow.Author.Tests.{eq-eqb, ne_eqb, eqb-true, eqb-false}
 use Rattle.octets.specs.Choice.{pick}
 use Rattle.diagnosis.specs.Map.{reports, count_from, lowest_from}
-use Rattle.diagnosis.specs.Lemmas.Map.{bit}
+use Rattle.diagnosis.proofs.Lemmas.Map.{bit}
 use Rattle.diagnosis.specs.declared.map.Lowest.TheVariants.{Module}
 
 -- the d numbers from k on pass a test as the d lowest bits of x are set

@@ -19,11 +19,11 @@ use Rattle.protocol.specs.Controller.{Move, Acted, acted, state_verdict}
 use Rattle.protocol.specs.Controller as controller
 use Rattle.protocol.specs.Download.{Given, Config, hears, steps, begin, sendings, bound, download, given, passage_by, passages_of, verdict_of, request_buffer, leaving, whole_by, download_of}
 use Rattle.protocol.specs.Demand.{NotRefused}
-use Rattle.protocol.specs.Theorem.{all_are_sent}
-use Rattle.protocol.specs.Lemmas.Accepted.{usable, entry_known, Taken, has_room, taken_so}
-use Rattle.protocol.specs.Lemmas.Runs.{at, run_stop, transcript_stop}
-use Rattle.protocol.specs.MachineLaws.Room.{over_long}
-use Rattle.protocol.specs.MachineLaws.Steps.{usable_after, step_moves, Kept, move_kept}
+use Rattle.protocol.proofs.Theorem.{all_are_sent}
+use Rattle.protocol.proofs.Lemmas.Accepted.{usable, entry_known, Taken, has_room, taken_so}
+use Rattle.protocol.proofs.Lemmas.Runs.{at, run_stop, transcript_stop}
+use Rattle.protocol.proofs.MachineLaws.Room.{over_long}
+use Rattle.protocol.proofs.MachineLaws.Steps.{usable_after, step_moves, Kept, move_kept}
 use Rattle.protocol.specs.declared.controller.Action.{Action}
 use Rattle.protocol.specs.declared.controller.Action.TheVariants as action
 use Rattle.protocol.specs.declared.controller.Controller.{Controller}

@@ -1,9 +1,7 @@
 -- Patterns of 32 bits and the floating-point numbers that they stand for (IEEE 754, binary32), and that both come back.
-use Rattle.std.specs.Prelude.{ℕ, ◌<◌, ◌^◌, ◌≡◌, refl, Bool, true, false, not, T, Float}
-use Rattle.std.proofs.Common.{sym, ap, ◌∙◌, subst}
+use Rattle.std.specs.Prelude.{ℕ, Bool, Float}
 use Rattle.std.specs.Float.{binary32}
-use Rattle.std.specs.Float.Ieee.{fits, nan_bits, of_bits, to_bits, is_nan}
-use Rattle.std.specs.Float.Ieee.Bits.{to_bits-of_bits, of_bits-to_bits, nan_bits_is}
+use Rattle.std.specs.Float.Ieee.{nan_bits, of_bits, to_bits, is_nan}
 use Rattle.octets.specs.Choice.{pick}
 use Rattle.float.specs.declared.Floating.{Floating}
 use Rattle.float.specs.declared.Floating.TheVariants.{Number, Nan}
@@ -26,38 +24,3 @@ pattern_of x = pick (is_nan x) Unknown (Bits (to_bits binary32 x))
 abbrev pub bits_in : Floating → Pattern
 bits_in (Number x) = pattern_of x
 bits_in (Nan n) = Bits n
-
--- ---- laws
-
--- what the pattern of a number tells of it
-unknown_by : (b : Bool) (n : ℕ) → pick b Unknown (Bits n) ≡ Unknown → b ≡ true
-unknown_by true n e = refl
-unknown_by false n e = cc
-
-known_by : (b : Bool) (n m : ℕ) → pick b Unknown (Bits n) ≡ Bits m → (b ≡ false) × (n ≡ m)
-known_by true n m e = (cc, cc)
-known_by false n m e = (refl, cc)
-
-pub unknown : (x : Float) → pattern_of x ≡ Unknown → is_nan x ≡ true
-unknown x e = unknown_by (is_nan x) (to_bits binary32 x) e
-
-pub known : (x : Float) {n : ℕ} → pattern_of x ≡ Bits n → (is_nan x ≡ false) × (to_bits binary32 x ≡ n)
-known x {n} e = known_by (is_nan x) (to_bits binary32 x) n e
-
-module _ (n : ℕ) (word : n < 2 ^ 32) where
-  number_pattern : (b : Bool) → nan_bits binary32 n ≡ b → bits_in (pick b (Nan n) (Number (of_bits binary32 n))) ≡ Bits n
-  number_pattern true e = refl
-  number_pattern false e =
-      let number : is_nan (of_bits binary32 n) ≡ false = sym (nan_bits_is binary32 n) ∙ e in
-      rw number (ap Bits (to_bits-of_bits binary32 n word (subst (λ (b : Bool). T (not b)) (sym number) tt)))
-
-  -- every pattern of 32 bits comes back, a NaN's too
-  pub pattern_back : bits_in (floating_of n) ≡ Bits n
-  pattern_back = number_pattern (nan_bits binary32 n) refl
-
--- every number that is no NaN comes back
-pub number_back : (x : Float) → T (fits binary32 x) → is_nan x ≡ false → floating_of (to_bits binary32 x) ≡ Number x
-number_back x f e =
-    let same : of_bits binary32 (to_bits binary32 x) ≡ x = of_bits-to_bits binary32 x f in
-    let number : is_nan_pattern (to_bits binary32 x) ≡ false = nan_bits_is binary32 (to_bits binary32 x) ∙ ap is_nan same ∙ e in
-    rw (number, same)

@@ -8,7 +8,8 @@ use native.Mathlib.Omega.{arith}
 use lib.Dec.{eqb}
 use lib.ListN.{length, get_or}
 use borrow.Author.Tests.{eqb-true}
-use Rattle.octets.specs.Choice.{pick, ◌and◌, and_left, and_right}
+use Rattle.octets.specs.Choice.{pick, ◌and◌}
+use Rattle.octets.proofs.Choice.{and_left, and_right}
 use Rattle.function_code.specs.Code.{class_of, class_number, Entry}
 use Rattle.function_code.specs.declared.code.Class.{Class}
 use Rattle.function_code.specs.declared.code.Class.TheVariants.{Opening, Counted, Uncounted, Bare, Data, Reserved}

@@ -2,7 +2,4 @@ pub mod Fields
 pub mod Reading
 pub mod Writing
 pub mod Timing
-pub mod Lemmas
-pub mod Laws
-pub mod Refusals
 pub mod Accepted

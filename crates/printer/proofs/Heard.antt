@@ -7,12 +7,12 @@ use lib.Dec.{ltb}
 use lib.ListN.{length}
 use borrow.Author.Tests.{ltb-false}
 use Rattle.octets.specs.Choice.{pick}
-use Rattle.octets.specs.Fixed.{passed}
+use Rattle.octets.proofs.Fixed.{passed}
 use Rattle.octets.specs.Front.{AtFront, Verdict, fine, over}
 use Rattle.diagnosis.specs.Reading as diagnosis
 use Rattle.protocol.specs.Check.{verdict_in}
-use Rattle.protocol.specs.Lemmas.Replies.{valid}
-use Rattle.protocol.specs.MachineLaws.Replies.{Comes, comes}
+use Rattle.protocol.proofs.Lemmas.Replies.{valid}
+use Rattle.protocol.proofs.MachineLaws.Replies.{Comes, comes}
 use Rattle.protocol.specs.Printer as printer
 use Rattle.protocol.specs.Printer.{received_of, perform, reply_bytes, renewed, is_repeat, saying, new_call, counted, heard_by, hear, is_refused, verdict_of, Station, lending, leaving, stepped, step_by, step_of}
 use Rattle.protocol.specs.Slots.{Slots, too_long}

@@ -12,8 +12,8 @@ use Rattle.octets.specs.declared.Written.TheVariants.{Stored}
 use Rattle.function_code.specs.Code.{class_of, is_reserved}
 use Rattle.function_code.specs.declared.code.Class.TheVariants as class
 use Rattle.fdl.specs.Around.{user_in}
-use Rattle.fdl.specs.Laws.{telegram_reads_back, data_inside}
-use Rattle.fdl.specs.Lemmas.Around.{around_length, good_fields_lem}
+use Rattle.fdl.proofs.Laws.{telegram_reads_back, data_inside}
+use Rattle.fdl.proofs.Lemmas.Around.{around_length, good_fields_lem}
 use Rattle.fdl.specs.Writing.{telegram_of, user_start, verdict_of}
 use Rattle.fdl.specs.declared.telegram.Format.{Format}
 use Rattle.fdl.specs.declared.telegram.Format.TheVariants.{Sd2}
@@ -22,9 +22,9 @@ use Rattle.access.specs.Route.{header_of}
 use Rattle.access.specs.declared.table.Service.TheVariants as service
 use Rattle.content.specs.Writing.{bytes_for}
 use Rattle.content.specs.declared.fields.Content.TheVariants as content
-use Rattle.service.specs.Lemmas.Placed.{data_placed}
+use Rattle.service.proofs.Lemmas.Placed.{data_placed}
 use Rattle.protocol.specs.Check.{stored_in}
-use Rattle.protocol.specs.Lemmas.Read.{writable, result_header, reply_class}
+use Rattle.protocol.proofs.Lemmas.Read.{writable, result_header, reply_class}
 use Rattle.protocol.specs.Telegrams.{reply_code, answer_of}
 use Rattle.protocol.specs.declared.printer.Outcome.{Outcome}
 use Rattle.protocol.specs.declared.printer.Outcome.TheVariants as outcome

@@ -3,7 +3,7 @@ use Prim.Native.Nat.{ℕ, ◌%◌}
 use mathlib.Core.Path.{◌≡◌, refl, sym, ap, ◌∙◌}
 use mathlib.Core.Bool.{Bool, true, false}
 use lib.Dec.{eqb}
-use Rattle.octets.specs.Choice.{by_pick, never}
+use Rattle.octets.proofs.Choice.{by_pick, never}
 use Rattle.function_code.specs.declared.code.Class.{Class}
 use Rattle.function_code.specs.declared.code.Class.TheVariants as class
 use Rattle.fdl.specs.declared.telegram.Header.{Header}

@@ -6,7 +6,7 @@ use Prim.Native.Nat.{ℕ, zero, suc, ◌-◌, min}
 use native.Mathlib.Omega.{arith}
 use lib.Dec.{eqb, ltb}
 use borrow.Author.Tests.{ltb-false}
-use Rattle.octets.specs.Choice.{by_pick}
+use Rattle.octets.proofs.Choice.{by_pick}
 use Rattle.protocol.specs.Printer as printer
 use Rattle.protocol.specs.Printer.{judge, guarded, only, write_deed, waited}
 use Rattle.protocol.specs.Slots.{Slots}

@@ -7,16 +7,9 @@ pub mod Line
 pub mod Controller
 pub mod Reply
 pub mod Download
-pub mod Refusals
 pub mod Verdicts
 pub mod Words
 pub mod Endings
 pub mod Course
 pub mod Demand
-pub mod Lemmas
-pub mod Theorem
-pub mod MachineLaws
-pub mod VerdictLaws
 pub mod Cards
-pub mod CardsTheorem
-pub mod Worked

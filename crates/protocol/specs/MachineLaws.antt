@@ -1,14 +1,1 @@
-pub mod Printer
 pub mod Effects
-pub mod Calls
-pub mod Answers
-pub mod Memory
-pub mod Replies
-pub mod Controller
-pub mod Got
-pub mod Moves
-pub mod Room
-pub mod States
-pub mod Stations
-pub mod Steps
-pub mod WorkedCalls

@@ -1,14 +1,14 @@
 -- A sending over lent bytes is that of the line's definition.
 use Rattle.std.specs.Prelude.{ℕ, ◌≡◌, refl, List, eqb, get_or, take}
 use Rattle.std.proofs.Common.{ap}
-use Rattle.octets.specs.Choice.{by_pick}
+use Rattle.octets.proofs.Choice.{by_pick}
 use Rattle.octets.specs.Front.{fine}
 use Rattle.protocol.specs.Line as line
 use Rattle.protocol.specs.Line.{Passage}
 use Rattle.protocol.specs.Printer.{Station, Stepped, stepped, hear, step_of}
 use Rattle.protocol.specs.Printer as printer
 use Rattle.protocol.specs.Download.{Given, hears, steps, passage_by}
-use Rattle.protocol.specs.MachineLaws.Steps.{step_hears}
+use Rattle.protocol.proofs.MachineLaws.Steps.{step_hears}
 use Rattle.sending.specs.Sending.{unanswered, sent_by}
 
 module _ (g : Given) (y : Station) (q : List ℕ) where

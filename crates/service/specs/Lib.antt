@@ -1,6 +1,2 @@
 pub mod Reading
 pub mod Writing
-pub mod Lemmas
-pub mod Laws
-pub mod Refusals
-pub mod Worked

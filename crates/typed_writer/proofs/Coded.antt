@@ -6,8 +6,9 @@ use native.Mathlib.Omega.{arith}
 use lib.ListN.{length, set}
 use lib.Dec.{leb}
 use borrow.Rule.Slice.PartMut.{mid_of, put_mid}
-use Rattle.octets.specs.Choice.{by_pick}
-use Rattle.octets.specs.Front.{fine, count_of, front_of, AtFront, answer_by, held_by, at_front, stores, stored, rest_fits, both}
+use Rattle.octets.proofs.Choice.{by_pick}
+use Rattle.octets.specs.Front.{fine, count_of, front_of, AtFront, answer_by, held_by}
+use Rattle.octets.proofs.Front.{at_front, stores, stored, rest_fits, both}
 use Rattle.octets.specs.declared.Written.TheVariants.{Stored}
 
 -- a store counts no more bytes than it was given

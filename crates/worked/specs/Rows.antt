@@ -1,18 +1,14 @@
 -- Further worked bytes, proved together, once. The starred rows of document 01 are `worked_rows` of service; these are for what a law
 -- of reading and writing back cannot see, because only the constants of a definition say it. A refusal is told by its number.
-use Rattle.std.specs.Prelude.{ℕ, ◌≡◌, refl, true, false, List, [], ◌∷◌}
+use Rattle.std.specs.Prelude.{ℕ, ◌≡◌, true, false, List, [], ◌∷◌}
 use Rattle.octets.specs.declared.Refusal.{Refusal}
 use Rattle.octets.specs.declared.Mode.TheVariants.{Dpv1}
-use Rattle.function_code.specs.Code.{class_of}
-use Rattle.fdl.specs.Telegram.{checksum_of}
 use Rattle.fdl.specs.Reading as telegram
-use Rattle.fdl.specs.Reading.{extension_of, source_of, destination_of, fields_of, framed_of, sd2_of, read_by}
 use Rattle.fdl.specs.declared.telegram.Format.TheVariants.{Sd3}
 use Rattle.fdl.specs.declared.telegram.Sap.TheVariants.{Absent}
 use Rattle.fdl.specs.declared.reading.Reading.TheVariants.{Telegram, Refused}
-use Rattle.diagnosis.specs.Map.{reports, count_from, lowest_from, set_of, lowest_of, lowest_number}
+use Rattle.diagnosis.specs.Map.{set_of, lowest_of, lowest_number}
 use Rattle.diagnosis.specs.declared.map.Lowest.TheVariants.{Module, Nothing}
-use Rattle.parameters.specs.Fields.{extension_verdict, verdict_of}
 use Rattle.parameters.specs.Reading as parameters
 use Rattle.parameters.specs.Timing.{watchdog_of, expired_of}
 use Rattle.parameters.specs.declared.fields.Milliseconds.{Milliseconds}
@@ -21,19 +17,14 @@ use Rattle.parameters.specs.declared.fields.Extension.TheVariants as extension
 use Rattle.parameters.specs.declared.reading.Reading.TheVariants as parameters-reading
 use Rattle.acyclic.specs.Answers as answers
 use Rattle.acyclic.specs.Calls as calls
-use Rattle.acyclic.specs.Errors.{named_in, good_code1}
-use Rattle.acyclic.specs.Forms.{ranged_of, negative_of, by_number, where_allowed}
-use Rattle.acyclic.specs.Numbers.{failed_by}
 use Rattle.acyclic.specs.declared.numbers.Function.TheVariants as function
 use Rattle.acyclic.specs.declared.answers.Answer.TheVariants as answer
 use Rattle.acyclic.specs.declared.answers.AnswerReading.TheVariants as answer-reading
 use Rattle.acyclic.specs.declared.calls.Call.TheVariants as call
 use Rattle.acyclic.specs.declared.calls.CallReading.TheVariants as call-reading
-use Rattle.typed.specs.Value.{kind_of, value_of}
 use Rattle.typed.specs.Reading as typed
 use Rattle.typed.specs.declared.value.Value.TheVariants.{Boolean, U8}
 use Rattle.typed.specs.declared.reading.Reading.TheVariants as typed-reading
-use Rattle.book.specs.Table.{good_pair, pair_of, table_of}
 use Rattle.book.specs.Reading as book
 use Rattle.book.specs.declared.answers.Reading.TheVariants as book-reading
 use Rattle.controller_bytes.specs.Endings.{ending_bytes, going_on}
@@ -51,7 +42,7 @@ parameter_bytes status1 = 0x08 ∷ 20 ∷ 5 ∷ 11 ∷ 0x12 ∷ 0x34 ∷ 0 ∷ s
 
 abbrev parameter_fields : (status1 : ℕ) → Parameters
 parameter_fields status1 =
-    record {
+    pub record {
       flags = 0x08;
       factor1 = 20;
       factor2 = 5;
@@ -90,28 +81,3 @@ pub record Rows : Type 0 where
   -- how a download stands, as C has it: refused at template 3 with B6, done, and not ended
   pub refused_at_3 : ending_bytes (ending.Refused 3 0xB6 0) ≡ 5 ∷ 3 ∷ 0xB6 ∷ 0 ∷ []
   pub all_done : (ending_bytes ending.Done ≡ 1 ∷ 0 ∷ 0 ∷ 0 ∷ []) × (going_on ≡ 0 ∷ 0 ∷ 0 ∷ 0 ∷ [])
-
-pub further_rows : Rows
-unfolding extension_of source_of destination_of fields_of framed_of sd2_of read_by checksum_of class_of failed_by negative_of good_code1 named_in ranged_of by_number where_allowed answers.four_of answers.read_answer_of calls.four_of calls.read_call_of reports count_from lowest_from extension_verdict verdict_of parameters.read_of kind_of value_of typed.read_of good_pair pair_of table_of book.bodies_by book.read_of
-further_rows =
-    record {
-      an_sd3 = refl;
-      seven_before_eight = refl;
-      eight = refl;
-      refused_write = refl;
-      refused_write_read = refl;
-      read_call = refl;
-      module_2 = (refl, refl);
-      no_module = (refl, refl);
-      a_set_prm = refl;
-      watchdog_in_1_ms = refl;
-      watchdog_in_10_ms = refl;
-      expired_at_its_time = (refl, refl);
-      true_is_ff = refl;
-      unsigned_8 = refl;
-      a_book = refl;
-      book_cut_short = refl;
-      book_too_long = refl;
-      refused_at_3 = refl;
-      all_done = (refl, refl);
-    }

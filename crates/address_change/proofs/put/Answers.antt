@@ -1,7 +1,7 @@
 -- `address_change::put` meets its contract. Four bytes are stored in turn.
 use native.Mathlib.Omega.{arith}
 use lib.ListN.{length-set}
-use Rattle.octets.specs.Front.{stores}
+use Rattle.octets.proofs.Front.{stores}
 use Rattle.address_change.specs.Address.{fixed_bytes}
 use Rattle.address_change.proofs.put.Goals as goal
 

@@ -2,7 +2,8 @@
 use mathlib.Core.Path.{◌≡◌}
 use native.Mathlib.Omega.{arith}
 use borrow.Author.Tests.{lt-ltb, le-ltb, eq-eqb, ne_eqb}
-use Rattle.octets.specs.Front.{fine, refused, too_small, both_written}
+use Rattle.octets.specs.Front.{fine}
+use Rattle.octets.proofs.Front.{refused, too_small, both_written}
 use Rattle.address_change.specs.Address.{verdict_of, verdict_for, bytes_for}
 use Rattle.address_change.proofs.write_address_change.Goals as goal
 

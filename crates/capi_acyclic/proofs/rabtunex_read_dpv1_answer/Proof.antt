@@ -2,7 +2,7 @@
 use mathlib.Core.Path.{refl, sym, ◌∙◌}
 use Prim.Native.Nat.{◌≤◌}
 use native.Mathlib.Omega.{arith}
-use Rattle.acyclic.specs.Laws.{answer_small}
+use Rattle.acyclic.proofs.Laws.{answer_small}
 use borrow.Author.Rules.{rules}
 use Rattle.capi_acyclic.proofs.rabtunex_read_dpv1_answer.Statement.{statement}
 use Rattle.capi_acyclic.proofs.rabtunex_read_dpv1_answer.Tie as tie

@@ -5,7 +5,7 @@ use Prim.Native.Nat.{ℕ, ◌+◌, ◌≤◌}
 use native.Mathlib.Omega.{arith}
 use Rattle.function_code.specs.Code.{class_of}
 use Rattle.fdl.specs.Reading.{read_of}
-use Rattle.fdl.specs.Laws.{data_inside}
+use Rattle.fdl.proofs.Laws.{data_inside}
 use Rattle.fdl.specs.declared.reading.Reading.{Reading}
 use Rattle.capi_telegram.specs.Telegram.{refusal_of, telegram_fields, fields_after}
 use borrow.Author.Rules.{rules}

@@ -4,7 +4,8 @@ use mathlib.Core.List.{List, []}
 use Prim.Native.Nat.{ℕ}
 use lib.ListN.{length, get_or}
 use borrow.Author.Tests.{eq-eqb, ne_eqb}
-use Rattle.octets.specs.Front.{answer_by, held_by, refused}
+use Rattle.octets.specs.Front.{answer_by, held_by}
+use Rattle.octets.proofs.Front.{refused}
 use Rattle.octets.specs.declared.Written.{Written}
 use Rattle.fdl.specs.Writing.{token_bytes, confirmation_bytes}
 use Rattle.capi_telegram.specs.Telegram.{verdict_at, bytes_at}

@@ -1,7 +1,7 @@
 -- `controller_input::take` meets its contract: by what the reply is.
 use mathlib.Core.Path.{◌≡◌, sym, ap, ◌∙◌}
 use Rattle.fdl.specs.Reading.{read_of}
-use Rattle.fdl.specs.Lemmas.Classed.{Says, said}
+use Rattle.fdl.proofs.Lemmas.Classed.{Says, said}
 use Rattle.fdl.specs.declared.reading.Classed.{Classed}
 use Rattle.protocol.specs.Controller.{got_from, got_in}
 use borrow.Author.Rules.{rules}

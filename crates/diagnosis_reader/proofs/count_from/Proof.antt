@@ -7,8 +7,8 @@ use lib.ListN.{length, drop}
 use borrow.Author.Rules.{rules}
 use Rattle.diagnosis.specs.Block.{found_at}
 use Rattle.diagnosis.specs.Reading.{blocks_in, counted, count_of}
-use Rattle.diagnosis.specs.Lemmas.Found.{Within, within_at}
-use Rattle.diagnosis.specs.Lemmas.Blocks.{blocks_more, blocks_bad, blocks_end}
+use Rattle.diagnosis.proofs.Lemmas.Found.{Within, within_at}
+use Rattle.diagnosis.proofs.Lemmas.Blocks.{blocks_more, blocks_bad, blocks_end}
 use Rattle.diagnosis.specs.declared.block.Found.TheVariants.{Is}
 use Rattle.diagnosis_reader.proofs.count_from.Statement.{statement}
 use Rattle.diagnosis_reader.proofs.count_from.Tie as tie

@@ -5,7 +5,7 @@ use native.Mathlib.Omega.{arith}
 use lib.ListN.{length, take, drop, length-take, length-drop}
 use borrow.Author.Rules.{rules}
 use Rattle.diagnosis.specs.Walk.{behind}
-use Rattle.diagnosis.specs.Lemmas.Found.{Within, within_at, three_at}
+use Rattle.diagnosis.proofs.Lemmas.Found.{Within, within_at, three_at}
 use Rattle.diagnosis_walk.proofs.block_at.Statement.{statement}
 use Rattle.diagnosis_walk.proofs.block_at.Tie as tie
 

@@ -3,7 +3,7 @@ use mathlib.Core.Path.{sym, ◌∙◌}
 use Prim.Native.Nat.{◌≤◌}
 use native.Mathlib.Omega.{arith}
 use Rattle.fdl.specs.Reading.{destination_of}
-use Rattle.fdl.specs.Lemmas.Extends.{is_found, within}
+use Rattle.fdl.proofs.Lemmas.Extends.{is_found, within}
 use borrow.Author.Rules.{rules}
 use Rattle.fdl_reader.proofs.destination.Statement.{statement}
 use Rattle.fdl_reader.proofs.destination.Tie as tie

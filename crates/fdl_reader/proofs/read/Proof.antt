@@ -1,7 +1,7 @@
 -- `fdl_reader::read` meets its contract: what the reading with the class says.
 use mathlib.Core.Path.{◌≡◌, sym, ◌∙◌}
 use Rattle.fdl.specs.Reading.{read_of}
-use Rattle.fdl.specs.Lemmas.Classed.{Says, said}
+use Rattle.fdl.proofs.Lemmas.Classed.{Says, said}
 use Rattle.fdl.specs.declared.reading.Classed.{Classed}
 use borrow.Author.Rules.{rules}
 use Rattle.fdl_reader.proofs.read.Statement.{statement}

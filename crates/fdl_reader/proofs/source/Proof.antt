@@ -3,7 +3,7 @@ use mathlib.Core.Path.{sym, ◌∙◌}
 use Prim.Native.Nat.{◌≤◌}
 use native.Mathlib.Omega.{arith}
 use Rattle.fdl.specs.Reading.{source_of}
-use Rattle.fdl.specs.Lemmas.Extends.{is_found, within}
+use Rattle.fdl.proofs.Lemmas.Extends.{is_found, within}
 use borrow.Author.Rules.{rules}
 use Rattle.fdl_reader.proofs.source.Statement.{statement}
 use Rattle.fdl_reader.proofs.source.Tie as tie

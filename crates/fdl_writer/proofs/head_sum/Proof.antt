@@ -6,8 +6,8 @@ use borrow.Author.Rules.{rules}
 use Rattle.fdl.specs.Telegram.{sum_of, checksum_of}
 use Rattle.fdl.specs.Writing.{sap_bytes}
 use Rattle.fdl.specs.Around.{head_bytes}
-use Rattle.fdl.specs.Lemmas.Fields.{sap_small}
-use Rattle.fdl.specs.Lemmas.Around.{sum_append}
+use Rattle.fdl.proofs.Lemmas.Fields.{sap_small}
+use Rattle.fdl.proofs.Lemmas.Around.{sum_append}
 use Rattle.fdl_writer.proofs.head_sum.Statement.{statement}
 use Rattle.fdl_writer.proofs.head_sum.Tie as tie
 

@@ -1,7 +1,7 @@
 -- `fdl_writer::length_byte` meets its contract. DA, SA, FC and the access points are the head.
 use native.Mathlib.Omega.{arith}
 use borrow.Author.Rules.{rules}
-use Rattle.fdl.specs.Lemmas.Around.{head_length}
+use Rattle.fdl.proofs.Lemmas.Around.{head_length}
 use Rattle.fdl_writer.proofs.length_byte.Statement.{statement}
 use Rattle.fdl_writer.proofs.length_byte.Tie as tie
 

@@ -4,9 +4,9 @@ use Prim.Native.Nat.{◌≤◌}
 use native.Mathlib.Omega.{arith}
 use lib.ListN.{length-set}
 use borrow.Author.Rules.{rules}
-use Rattle.octets.specs.Front.{stores}
+use Rattle.octets.proofs.Front.{stores}
 use Rattle.fdl.specs.Writing.{address_bytes}
-use Rattle.fdl.specs.Lemmas.Fields.{sap_small}
+use Rattle.fdl.proofs.Lemmas.Fields.{sap_small}
 use Rattle.fdl_writer.proofs.put_addresses.Statement.{statement}
 use Rattle.fdl_writer.proofs.put_addresses.Tie as tie
 

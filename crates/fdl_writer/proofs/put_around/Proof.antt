@@ -5,11 +5,12 @@ use Prim.Native.Nat.{ℕ, ◌≤◌}
 use native.Mathlib.Omega.{arith}
 use lib.ListN.{length, take, drop, length-append}
 use borrow.Author.Rules.{rules}
-use Rattle.octets.specs.Front.{first_fits, within, rest_fits, both, lent_rest}
+use Rattle.octets.proofs.Front.{first_fits, within, rest_fits, both, lent_rest}
 use Rattle.fdl.specs.Writing.{start_bytes, core_of, end_bytes, closed_of, telegram_of}
-use Rattle.fdl.specs.Around.{user_in, head_bytes, user_length}
-use Rattle.fdl.specs.Lemmas.Fields.{core_length}
-use Rattle.fdl.specs.Lemmas.Around.{head_length, around_length, user_behind}
+use Rattle.fdl.specs.Around.{user_in, head_bytes}
+use Rattle.fdl.proofs.Around.{user_length}
+use Rattle.fdl.proofs.Lemmas.Fields.{core_length}
+use Rattle.fdl.proofs.Lemmas.Around.{head_length, around_length, user_behind}
 use Rattle.fdl_writer.proofs.put_around.Statement.{statement}
 use Rattle.fdl_writer.proofs.put_around.Tie as tie
 

@@ -6,11 +6,12 @@ use Prim.Native.Nat.{ℕ, ◌+◌, ◌%◌}
 use native.Mathlib.Omega.{arith}
 use lib.ListN.{length, take, drop, length-append}
 use borrow.Author.Rules.{rules}
-use Rattle.octets.specs.Front.{AtFront, front, within, behind, kept}
+use Rattle.octets.specs.Front.{AtFront}
+use Rattle.octets.proofs.Front.{front, within, behind, kept}
 use Rattle.fdl.specs.Telegram.{checksum_of}
 use Rattle.fdl.specs.Writing.{core_of, end_bytes}
 use Rattle.fdl.specs.Around.{head_bytes}
-use Rattle.fdl.specs.Lemmas.Around.{head_core, core_checksum}
+use Rattle.fdl.proofs.Lemmas.Around.{head_core, core_checksum}
 use Rattle.fdl_writer.proofs.put_closed.Statement.{statement}
 use Rattle.fdl_writer.proofs.put_closed.Tie as tie
 

@@ -3,7 +3,7 @@ use mathlib.Core.List.{List}
 use Prim.Native.Nat.{ℕ}
 use native.Mathlib.Omega.{arith}
 use borrow.Author.Rules.{rules}
-use Rattle.octets.specs.Front.{first_fits, within, rest_fits, both}
+use Rattle.octets.proofs.Front.{first_fits, within, rest_fits, both}
 use Rattle.fdl.specs.Writing.{sap_bytes}
 use Rattle.fdl_writer.proofs.put_saps.Statement.{statement}
 use Rattle.fdl_writer.proofs.put_saps.Tie as tie

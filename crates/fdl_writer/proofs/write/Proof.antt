@@ -7,10 +7,10 @@ use native.Mathlib.Omega.{arith}
 use lib.ListN.{length}
 use borrow.Author.Rules.{rules}
 use borrow.Author.Tests.{not-true, not-false}
-use Rattle.octets.specs.Front.{refused, too_small, stored, covered}
+use Rattle.octets.proofs.Front.{refused, too_small, stored, covered}
 use Rattle.fdl.specs.Telegram.{checksum_of}
 use Rattle.fdl.specs.Writing.{telegram_of}
-use Rattle.fdl.specs.Lemmas.Around.{Fit, fit, unfit, user_held}
+use Rattle.fdl.proofs.Lemmas.Around.{Fit, fit, unfit, user_held}
 use Rattle.fdl_writer.proofs.write.Statement.{statement}
 use Rattle.fdl_writer.proofs.write.Tie as tie
 

@@ -7,11 +7,12 @@ use native.Mathlib.Omega.{arith}
 use lib.ListN.{length, take, drop}
 use borrow.Author.Rules.{rules}
 use borrow.Author.Tests.{not-true, not-false}
-use Rattle.octets.specs.Front.{refused, too_small, stored}
+use Rattle.octets.proofs.Front.{refused, too_small, stored}
 use Rattle.fdl.specs.Telegram.{checksum_of}
 use Rattle.fdl.specs.Writing.{telegram_of}
-use Rattle.fdl.specs.Around.{user_in, user_length, user_inside}
-use Rattle.fdl.specs.Lemmas.Around.{Fit, fit, unfit}
+use Rattle.fdl.specs.Around.{user_in}
+use Rattle.fdl.proofs.Around.{user_length, user_inside}
+use Rattle.fdl.proofs.Lemmas.Around.{Fit, fit, unfit}
 use Rattle.fdl_writer.proofs.write_around.Statement.{statement}
 use Rattle.fdl_writer.proofs.write_around.Tie as tie
 

@@ -1,7 +1,7 @@
 -- `framing::saps_length` meets its contract. Each access point takes at most one byte.
 use native.Mathlib.Omega.{arith}
 use borrow.Author.Rules.{rules}
-use Rattle.fdl.specs.Lemmas.Fields.{sap_small}
+use Rattle.fdl.proofs.Lemmas.Fields.{sap_small}
 use Rattle.framing.proofs.saps_length.Statement.{statement}
 use Rattle.framing.proofs.saps_length.Tie as tie
 

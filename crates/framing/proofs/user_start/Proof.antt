@@ -1,7 +1,7 @@
 -- `framing::user_start` meets its contract. The start, three bytes and the access points are few.
 use native.Mathlib.Omega.{arith}
 use borrow.Author.Rules.{rules}
-use Rattle.fdl.specs.Lemmas.Fields.{sap_small, start_small}
+use Rattle.fdl.proofs.Lemmas.Fields.{sap_small, start_small}
 use Rattle.framing.proofs.user_start.Statement.{statement}
 use Rattle.framing.proofs.user_start.Tie as tie
 

@@ -8,7 +8,7 @@ use borrow.Author.Tests.{not-true, not-false}
 use Rattle.function_code.specs.Code.{class_of}
 use Rattle.fdl.specs.Telegram.{sap_length}
 use Rattle.fdl.specs.Writing.{good_header, good_length}
-use Rattle.fdl.specs.Lemmas.Fields.{sap_small, pdu_large}
+use Rattle.fdl.proofs.Lemmas.Fields.{sap_small, pdu_large}
 use Rattle.framing.proofs.writable.Statement.{statement}
 use Rattle.framing.proofs.writable.Tie as tie
 

@@ -2,7 +2,7 @@
 use mathlib.Core.Path.{sym}
 use Prim.Native.Nat.{◌+◌}
 use native.Mathlib.Omega.{arith}
-use Rattle.fdl.specs.Around.{too_long}
+use Rattle.fdl.proofs.Around.{too_long}
 use borrow.Author.Rules.{rules}
 use Rattle.framing.proofs.writable_with.Statement.{statement}
 use Rattle.framing.proofs.writable_with.Tie as tie

@@ -1,6 +1,6 @@
 -- `framing::write_confirmation` meets its contract. The slice is too small, or the one byte is stored.
 use borrow.Author.Rules.{rules}
-use Rattle.octets.specs.Front.{stores, too_small, stored}
+use Rattle.octets.proofs.Front.{stores, too_small, stored}
 use Rattle.fdl.specs.Writing.{confirmation_bytes}
 use Rattle.framing.proofs.write_confirmation.Statement.{statement}
 use Rattle.framing.proofs.write_confirmation.Tie as tie

@@ -4,7 +4,8 @@ use native.Mathlib.Omega.{arith}
 use lib.ListN.{length-set}
 use borrow.Author.Rules.{rules}
 use borrow.Author.Tests.{le-leb, lt-leb}
-use Rattle.octets.specs.Front.{fine, stores, refused, too_small, stored}
+use Rattle.octets.specs.Front.{fine}
+use Rattle.octets.proofs.Front.{stores, refused, too_small, stored}
 use Rattle.fdl.specs.Writing.{token_bytes, token_verdict}
 use Rattle.framing.proofs.write_token.Statement.{statement}
 use Rattle.framing.proofs.write_token.Tie as tie

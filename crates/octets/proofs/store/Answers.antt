@@ -1,5 +1,5 @@
 -- `octets::store` meets its contract: all is copied where it fits.
-use Rattle.octets.specs.Front.{none_stored, all_stored, copied}
+use Rattle.octets.proofs.Front.{none_stored, all_stored, copied}
 use borrow.Author.Rules.{rules}
 use Rattle.octets.proofs.store.Goals as goal
 

@@ -2,7 +2,7 @@
 use native.Mathlib.Omega.{arith}
 use lib.ListN.{length-set}
 use Rattle.octets.specs.Number.{bytes_of}
-use Rattle.octets.specs.Front.{none_stored, all_stored, stores}
+use Rattle.octets.proofs.Front.{none_stored, all_stored, stores}
 use borrow.Author.Rules.{rules}
 use Rattle.octets.proofs.store32.Goals as goal
 

@@ -13,7 +13,7 @@ use Rattle.octets.specs.declared.Mode.{Mode}
 use Rattle.octets.specs.declared.Mode.TheVariants as mode
 use Rattle.parameters.specs.Fields.{fixed_length, good_response, extension_verdict, verdict_of}
 use Rattle.parameters.specs.Reading.{refused, extension_in, answer_in, extension_of, read_of}
-use Rattle.parameters.specs.Lemmas.Fields.{fixed_least}
+use Rattle.parameters.proofs.Lemmas.Fields.{fixed_least}
 use Rattle.parameters_reader.proofs.read.Statement.{statement}
 use Rattle.parameters_reader.proofs.read.Tie as tie
 

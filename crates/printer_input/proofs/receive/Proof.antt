@@ -3,8 +3,8 @@ use mathlib.Core.Path.{◌≡◌, sym, ap, ◌∙◌}
 use native.Mathlib.Omega.{arith}
 use Rattle.function_code.specs.Code.{class_of}
 use Rattle.fdl.specs.Reading.{read_of}
-use Rattle.fdl.specs.Laws.{data_inside}
-use Rattle.fdl.specs.Lemmas.Classed.{Says, said}
+use Rattle.fdl.proofs.Laws.{data_inside}
+use Rattle.fdl.proofs.Lemmas.Classed.{Says, said}
 use Rattle.fdl.specs.declared.reading.Classed.{Classed}
 use Rattle.protocol.specs.Printer.{received_by, received_of}
 use borrow.Author.Rules.{rules}

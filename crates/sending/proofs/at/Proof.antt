@@ -1,7 +1,7 @@
 -- `sending::at` meets its contract.
 use mathlib.Core.Path.{sym}
 use borrow.Author.Rules.{rules}
-use Rattle.octets.specs.Elements.{get_d_past}
+use Rattle.octets.proofs.Elements.{get_d_past}
 use Rattle.sending.proofs.at.Statement.{statement}
 use Rattle.sending.proofs.at.Tie as tie
 

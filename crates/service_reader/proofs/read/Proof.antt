@@ -6,10 +6,11 @@ use native.Mathlib.Omega.{arith}
 use lib.Dec.{leb}
 use lib.ListN.{length}
 use borrow.Author.Tests.{leb-true}
-use Rattle.octets.specs.Choice.{by_pick}
-use Rattle.octets.specs.Part.{part_of, part_short}
+use Rattle.octets.proofs.Choice.{by_pick}
+use Rattle.octets.specs.Part.{part_of}
+use Rattle.octets.proofs.PartLaws.{part_short}
 use Rattle.fdl.specs.Reading as telegram
-use Rattle.fdl.specs.Lemmas.Classed.{Says, said}
+use Rattle.fdl.proofs.Lemmas.Classed.{Says, said}
 use Rattle.fdl.specs.declared.reading.Classed.{Classed}
 use Rattle.access.specs.Route.{route_of}
 use Rattle.service.specs.Reading.{routed_by, service_in, read_of}

@@ -2,9 +2,9 @@
 use mathlib.Core.Path.{◌≡◌, sym, ap, ◌∙◌}
 use native.Mathlib.Omega.{arith}
 use Rattle.access.specs.Route.{route_of}
-use Rattle.access.specs.Laws.{class_route}
+use Rattle.access.proofs.Laws.{class_route}
 use Rattle.content.specs.Reading.{end_of}
-use Rattle.content.specs.Lemmas.Inside.{call_inside, answer_inside}
+use Rattle.content.proofs.Lemmas.Inside.{call_inside, answer_inside}
 use Rattle.service.specs.Reading.{placed_at, routed_by}
 use Rattle.service.specs.declared.reading.Way.TheVariants as way
 use Rattle.access.specs.declared.route.Route.{Route}

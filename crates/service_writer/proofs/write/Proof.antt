@@ -7,24 +7,25 @@ use native.Mathlib.Omega.{arith}
 use lib.ListN.{length}
 use types.Run.{OneOf, miss}
 use denote.Enum.Declared as Declared
-use Rattle.octets.specs.Front.{Verdict, refused}
+use Rattle.octets.specs.Front.{Verdict}
+use Rattle.octets.proofs.Front.{refused}
 use Rattle.fdl.specs.Around.{good_fields}
-use Rattle.fdl.specs.Lemmas.Around.{fit}
+use Rattle.fdl.proofs.Lemmas.Around.{fit}
 use Rattle.fdl.specs.Writing.{telegram_of}
 use Rattle.fdl.specs.declared.telegram.Header.{Header}
 use Rattle.access.specs.contracts.route.Route as route-type
-use Rattle.access.specs.Laws.{header_route}
+use Rattle.access.proofs.Laws.{header_route}
 use Rattle.access.specs.Route.{route_of, header_of}
 use Rattle.access.specs.declared.route.Route.{Route}
 use Rattle.access.specs.declared.route.Route.TheVariants as route
 use Rattle.access.specs.declared.table.Service.{Service}
 use Rattle.content.specs.Fields.{fixed_length}
-use Rattle.content.specs.Laws.{bytes_long}
+use Rattle.content.proofs.Laws.{bytes_long}
 use Rattle.content.specs.Writing.{bytes_for}
 use Rattle.content.specs.declared.fields.Content.{Content}
 use Rattle.service.specs.Writing.{way_by, header_for, way_verdict, route_verdict, verdict_of, telegram_for}
 use Rattle.service.specs.declared.reading.Way.{Way}
-use Rattle.service.specs.Lemmas.Verdict.{bad_fields, good_fields_lem}
+use Rattle.service.proofs.Lemmas.Verdict.{bad_fields, good_fields_lem}
 use borrow.Author.Rules.{rules}
 use Rattle.service_writer.proofs.write.Statement.{statement}
 use Rattle.service_writer.proofs.write.Tie as tie

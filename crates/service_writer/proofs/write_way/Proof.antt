@@ -7,13 +7,14 @@ use native.Mathlib.Omega.{arith}
 use lib.Dec.{ltb}
 use lib.ListN.{length}
 use borrow.Author.Tests.{lt-ltb, le-ltb, ltb-false}
-use Rattle.octets.specs.Choice.{pick, by_pick}
+use Rattle.octets.specs.Choice.{pick}
+use Rattle.octets.proofs.Choice.{by_pick}
 use Rattle.fdl.specs.Around.{good_fields}
-use Rattle.fdl.specs.Lemmas.Around.{Fit, fit}
-use Rattle.content.specs.Laws.{bytes_long}
+use Rattle.fdl.proofs.Lemmas.Around.{Fit, fit}
+use Rattle.content.proofs.Laws.{bytes_long}
 use Rattle.content.specs.Writing.{bytes_for}
 use Rattle.service.specs.Writing.{way_verdict}
-use Rattle.service.specs.Lemmas.Placed.{without_room, data_refused, data_stored}
+use Rattle.service.proofs.Lemmas.Placed.{without_room, data_refused, data_stored}
 use borrow.Author.Rules.{rules}
 use Rattle.service_writer.proofs.write_way.Statement.{statement}
 use Rattle.service_writer.proofs.write_way.Tie as tie

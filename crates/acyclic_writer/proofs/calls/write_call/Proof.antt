@@ -3,9 +3,9 @@ use mathlib.Core.Path.{◌≡◌, refl}
 use mathlib.Core.List.{[]}
 use native.Mathlib.Omega.{arith}
 use borrow.Author.Tests.{lt-ltb}
-use Rattle.octets.specs.Front.{refused, stored}
+use Rattle.octets.proofs.Front.{refused, stored}
 use Rattle.acyclic.specs.Forms.{alone_of}
-use Rattle.acyclic.specs.Lemmas.Forms.{no_bytes}
+use Rattle.acyclic.proofs.Lemmas.Forms.{no_bytes}
 use borrow.Author.Rules.{rules}
 use Rattle.acyclic_writer.proofs.calls.write_call.Statement.{statement}
 use Rattle.acyclic_writer.proofs.calls.write_call.Tie as tie

@@ -2,7 +2,7 @@
 use native.Mathlib.Omega.{arith}
 use lib.ListN.{length-set}
 use borrow.Author.Rules.{rules}
-use Rattle.octets.specs.Front.{stores}
+use Rattle.octets.proofs.Front.{stores}
 use Rattle.acyclic_writer.specs.Forms.{front_bytes}
 use Rattle.acyclic_writer.proofs.forms.put.Statement.{statement}
 use Rattle.acyclic_writer.proofs.forms.put.Tie as tie

@@ -1,6 +1,6 @@
 -- `acyclic_writer::forms::store` meets its contract. Four and the part's length are all bytes.
 use borrow.Author.Rules.{rules}
-use Rattle.octets.specs.Front.{both_too_small, both_written}
+use Rattle.octets.proofs.Front.{both_too_small, both_written}
 use Rattle.acyclic_writer.specs.Forms.{front_bytes}
 use Rattle.acyclic_writer.proofs.forms.store.Statement.{statement}
 use Rattle.acyclic_writer.proofs.forms.store.Tie as tie

@@ -4,9 +4,9 @@ use mathlib.Core.List.{[], ◌∷◌}
 use native.Mathlib.Omega.{arith}
 use borrow.Author.Rules.{rules}
 use borrow.Author.Tests.{lt-ltb}
-use Rattle.octets.specs.Front.{refused, too_small, stored, stores}
+use Rattle.octets.proofs.Front.{refused, too_small, stored, stores}
 use Rattle.acyclic.specs.Forms.{alone_of}
-use Rattle.acyclic.specs.Lemmas.Forms.{no_bytes}
+use Rattle.acyclic.proofs.Lemmas.Forms.{no_bytes}
 use Rattle.acyclic_writer.proofs.forms.write_bare.Statement.{statement}
 use Rattle.acyclic_writer.proofs.forms.write_bare.Tie as tie
 

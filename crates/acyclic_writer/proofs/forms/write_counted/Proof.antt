@@ -4,9 +4,10 @@ use mathlib.Core.List.{◌++◌}
 use native.Mathlib.Omega.{arith}
 use lib.ListN.{length}
 use borrow.Author.Rules.{rules}
-use Rattle.octets.specs.Front.{fine, refused}
+use Rattle.octets.specs.Front.{fine}
+use Rattle.octets.proofs.Front.{refused}
 use Rattle.acyclic.specs.Forms.{verdict_in, counted_of, four}
-use Rattle.acyclic.specs.Lemmas.Forms.{counted_within}
+use Rattle.acyclic.proofs.Lemmas.Forms.{counted_within}
 use Rattle.acyclic_writer.proofs.forms.write_counted.Statement.{statement}
 use Rattle.acyclic_writer.proofs.forms.write_counted.Tie as tie
 

@@ -1,7 +1,7 @@
 -- `acyclic_writer::forms::write_four` meets its contract. The check has the verdict.
 use mathlib.Core.List.{◌++◌}
 use borrow.Author.Rules.{rules}
-use Rattle.octets.specs.Front.{refused}
+use Rattle.octets.proofs.Front.{refused}
 use Rattle.acyclic_writer.specs.Forms.{front_bytes}
 use Rattle.acyclic_writer.proofs.forms.write_four.Statement.{statement}
 use Rattle.acyclic_writer.proofs.forms.write_four.Tie as tie

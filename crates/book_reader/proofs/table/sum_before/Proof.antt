@@ -4,7 +4,7 @@ use Prim.Native.Nat.{◌+◌, ◌*◌, ◌-◌, ◌≤◌}
 use native.Mathlib.Omega.{arith}
 use lib.ListN.{get_or}
 use Rattle.book.specs.Table.{every_second, sum_of}
-use Rattle.book.specs.Lemmas.Pairs.{second_next}
+use Rattle.book.proofs.Lemmas.Pairs.{second_next}
 use Rattle.book_reader.proofs.table.sum_before.Statement.{statement}
 use Rattle.book_reader.proofs.table.sum_before.Tie as tie
 

@@ -6,8 +6,8 @@ use native.Mathlib.Omega.{arith}
 use lib.ListN.{get_or}
 use borrow.Author.Rules.{rules}
 use Rattle.book.specs.Table.{every_second, table_of}
-use Rattle.book.specs.Lemmas.Pairs.{second_next}
-use Rattle.book.specs.Lemmas.Running.{Running, begins, goes, breaks, done}
+use Rattle.book.proofs.Lemmas.Pairs.{second_next}
+use Rattle.book.proofs.Lemmas.Running.{Running, begins, goes, breaks, done}
 use Rattle.book.specs.declared.table.Table.{Table}
 use Rattle.book.specs.declared.table.Table.TheVariants.{Total}
 use Rattle.book_reader.proofs.table.table_in.Statement.{statement}

@@ -8,7 +8,7 @@ use borrow.Author.Tests.{lt-ltb, le-ltb}
 use Rattle.book.specs.Table.{every_second, sum_of}
 use Rattle.book.specs.Reading.{counted, slots_of, lengths_of}
 use Rattle.book.specs.Template.{entry_at, listed_of}
-use Rattle.book.specs.Lemmas.Pairs.{second_at, second_take}
+use Rattle.book.proofs.Lemmas.Pairs.{second_at, second_take}
 use Rattle.book.specs.declared.answers.Template.TheVariants.{Is}
 use borrow.Author.Rules.{rules}
 use Rattle.book_reader.proofs.templates.listed.Statement.{statement}

@@ -1,7 +1,7 @@
 -- `book_reader::templates::template` meets its contract: of a book that is accepted, the table has every template.
 use mathlib.Core.Path.{sym, ◌∙◌}
 use Rattle.book.specs.Template.{template_of}
-use Rattle.book.specs.Laws.{listed_is}
+use Rattle.book.proofs.Laws.{listed_is}
 use borrow.Author.Rules.{rules}
 use Rattle.book_reader.proofs.templates.template.Statement.{statement}
 use Rattle.book_reader.proofs.templates.template.Tie as tie

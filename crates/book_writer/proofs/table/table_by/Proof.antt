@@ -8,7 +8,7 @@ use lib.ListN.{length, get_or, drop}
 use lib.Seq.{drop-cons, drop-length}
 use borrow.Author.Rules.{rules}
 use Rattle.book.specs.Table.{table_of}
-use Rattle.book.specs.Lemmas.Running.{Running, begins, goes, breaks, done}
+use Rattle.book.proofs.Lemmas.Running.{Running, begins, goes, breaks, done}
 use Rattle.book.specs.declared.table.Table.{Table}
 use Rattle.book.specs.declared.table.Table.TheVariants.{Total}
 use Rattle.book_writer.proofs.table.table_by.Statement.{statement}

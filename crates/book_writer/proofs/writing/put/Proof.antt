@@ -2,7 +2,7 @@
 use mathlib.Core.List.{◌∷◌}
 use lib.ListN.{length}
 use borrow.Author.Rules.{rules}
-use Rattle.octets.specs.Front.{first_fits, both_stored}
+use Rattle.octets.proofs.Front.{first_fits, both_stored}
 use Rattle.book.specs.Writing.{pairs_of}
 use Rattle.book_writer.proofs.writing.put.Statement.{statement}
 use Rattle.book_writer.proofs.writing.put.Tie as tie

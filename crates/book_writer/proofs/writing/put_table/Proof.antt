@@ -6,9 +6,9 @@ use native.Mathlib.Omega.{arith}
 use native.Mathlib.Numerals.{add-one}
 use lib.ListN.{length, get_or, drop, set, length-set}
 use lib.Seq.{sets, drop-cons, drop-length}
-use Rattle.octets.specs.Front.{stores}
+use Rattle.octets.proofs.Front.{stores}
 use Rattle.book.specs.Writing.{pairs_of}
-use Rattle.book.specs.Lemmas.Parts.{pairs_long}
+use Rattle.book.proofs.Lemmas.Parts.{pairs_long}
 use Rattle.book_writer.proofs.writing.put_table.Statement.{statement}
 use Rattle.book_writer.proofs.writing.put_table.Tie as tie
 

@@ -3,7 +3,7 @@ use mathlib.Core.Path.{sym}
 use native.Mathlib.Omega.{arith}
 use borrow.Author.Rules.{rules}
 use borrow.Author.Tests.{lt-ltb, le-ltb, eq-eqb, ne_eqb}
-use Rattle.octets.specs.Front.{refused}
+use Rattle.octets.proofs.Front.{refused}
 use Rattle.book.specs.Writing.{book_bytes, verdict_of}
 use Rattle.book_writer.proofs.writing.write.Statement.{statement}
 use Rattle.book_writer.proofs.writing.write.Tie as tie

@@ -5,9 +5,10 @@ use native.Mathlib.Omega.{arith}
 use lib.ListN.{length}
 use borrow.Author.Rules.{rules}
 use borrow.Author.Tests.{eq-eqb, ne_eqb}
-use Rattle.octets.specs.Front.{fine, fault, refused, too_small, stored}
+use Rattle.octets.specs.Front.{fine, fault}
+use Rattle.octets.proofs.Front.{refused, too_small, stored}
 use Rattle.book.specs.Writing.{book_bytes, bodies_verdict}
-use Rattle.book.specs.Lemmas.Parts.{book_long}
+use Rattle.book.proofs.Lemmas.Parts.{book_long}
 use Rattle.book_writer.proofs.writing.write_judged.Statement.{statement}
 use Rattle.book_writer.proofs.writing.write_judged.Tie as tie
 

@@ -7,7 +7,7 @@ use borrow.Author.Tests.{lt-ltb, le-ltb}
 use Rattle.service.specs.Reading.{read_of}
 use Rattle.service.specs.declared.reading.Reading.{Reading}
 use Rattle.capi_service.specs.Service.{read_in, refusal_of, fields_after}
-use Rattle.capi_service.specs.Laws.{read_ends}
+use Rattle.capi_service.proofs.Laws.{read_ends}
 use borrow.Author.Rules.{rules}
 use Rattle.capi_service.proofs.reading.rabtunex_read_service.Statement.{statement}
 use Rattle.capi_service.proofs.reading.rabtunex_read_service.Tie as tie

@@ -5,7 +5,8 @@ use mathlib.Core.List.{List, []}
 use Prim.Native.Nat.{ℕ}
 use lib.ListN.{length}
 use borrow.Author.Tests.{lt-ltb, le-ltb}
-use Rattle.octets.specs.Front.{Verdict, fault, answer_by, held_by, refused}
+use Rattle.octets.specs.Front.{Verdict, fault, answer_by, held_by}
+use Rattle.octets.proofs.Front.{refused}
 use Rattle.fields.specs.Outcome.{status_of, count_after}
 use Rattle.capi_service.specs.Service.{named_verdict, named_bytes, kind_verdict, kind_bytes, verdict_in, bytes_in}
 use Rattle.service_fields.specs.Service.{content_in}

@@ -4,7 +4,8 @@ use mathlib.Core.List.{List, []}
 use Prim.Native.Nat.{ℕ, ◌+◌}
 use native.Mathlib.Nat.{zero-add}
 use lib.ListN.{length}
-use Rattle.octets.specs.Front.{fault, answer_by, held_by, refused}
+use Rattle.octets.specs.Front.{fault, answer_by, held_by}
+use Rattle.octets.proofs.Front.{refused}
 use Rattle.octets.specs.declared.Written.TheVariants.{Refused}
 use Rattle.access.specs.declared.table.Service.{Service}
 use Rattle.access.specs.declared.table.Service.TheVariants.{Dpv1}

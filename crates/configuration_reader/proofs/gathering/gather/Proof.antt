@@ -8,7 +8,7 @@ use borrow.Author.Rules.{rules}
 use Rattle.configuration.specs.Walk.{walk_of}
 use Rattle.configuration.specs.Reading.{input_of, output_of, totals_of, offsets_by}
 use Rattle.configuration.specs.Contents.{Stands}
-use Rattle.configuration.specs.Lemmas.Steps.{stands, ends, breaks}
+use Rattle.configuration.proofs.Lemmas.Steps.{stands, ends, breaks}
 use Rattle.configuration_reader.proofs.Running.{Running, begins, goes, done}
 use Rattle.configuration_reader.proofs.gathering.gather.Statement.{statement}
 use Rattle.configuration_reader.proofs.gathering.gather.Tie as tie

@@ -6,9 +6,9 @@ use lib.ListN.{length}
 use borrow.Author.Rules.{rules}
 use borrow.Author.Tests.{lt-ltb, le-ltb}
 use Rattle.configuration.specs.Walk.{walk_of}
-use Rattle.octets.specs.Front.{stores}
+use Rattle.octets.proofs.Front.{stores}
 use Rattle.configuration.specs.Reading.{input_of, output_of, input_offsets, output_offsets, read_of, offsets_by, with_room}
-use Rattle.configuration.specs.Lemmas.Accepted.{accepted, counted}
+use Rattle.configuration.proofs.Lemmas.Accepted.{accepted, counted}
 use Rattle.configuration.specs.declared.fields.Module.{Module}
 use Rattle.configuration.specs.declared.reading.Reading.TheVariants.{Configuration}
 use Rattle.configuration_reader.proofs.lists.offsets.Statement.{statement}

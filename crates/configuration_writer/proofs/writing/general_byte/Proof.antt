@@ -5,7 +5,7 @@ use Prim.Native.Nat.{◌≤◌}
 use native.Mathlib.Omega.{arith}
 use borrow.Author.Rules.{rules}
 use Rattle.configuration.specs.Writing.{good_side, side_byte, either_side}
-use Rattle.configuration.specs.Lemmas.Sides.{present_small, side_byte_small, either_good, wider}
+use Rattle.configuration.proofs.Lemmas.Sides.{present_small, side_byte_small, either_good, wider}
 use Rattle.configuration_writer.proofs.writing.general_byte.Statement.{statement}
 use Rattle.configuration_writer.proofs.writing.general_byte.Tie as tie
 

@@ -1,6 +1,6 @@
 -- `configuration_writer::writing::put_input` meets its contract. Two stores: the vendor bytes behind the length byte.
 use borrow.Author.Rules.{rules}
-use Rattle.octets.specs.Front.{first_fits, both_stored}
+use Rattle.octets.proofs.Front.{first_fits, both_stored}
 use Rattle.configuration.specs.Writing.{side_bytes}
 use Rattle.configuration_writer.proofs.writing.put_input.Statement.{statement}
 use Rattle.configuration_writer.proofs.writing.put_input.Tie as tie

@@ -5,9 +5,10 @@ use Prim.Native.Nat.{ℕ, ◌+◌, ◌*◌, ◌≤◌}
 use native.Mathlib.Omega.{arith}
 use lib.ListN.{length, set, length-append, length-drop}
 use borrow.Author.Rules.{rules}
-use Rattle.octets.specs.Front.{AtFront, stores, first_fits, within, rest_fits, both}
+use Rattle.octets.specs.Front.{AtFront}
+use Rattle.octets.proofs.Front.{stores, first_fits, within, rest_fits, both}
 use Rattle.configuration.specs.Writing.{side_bytes, special_bytes}
-use Rattle.configuration.specs.Lemmas.Sides.{present_small}
+use Rattle.configuration.proofs.Lemmas.Sides.{present_small}
 use Rattle.configuration_writer.proofs.writing.put_special.Statement.{statement}
 use Rattle.configuration_writer.proofs.writing.put_special.Tie as tie
 

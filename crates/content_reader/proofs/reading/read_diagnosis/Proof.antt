@@ -1,5 +1,5 @@
 -- `content_reader::reading::read_diagnosis` meets its contract: as the reading of the format says; a diagnosis has six bytes.
-use Rattle.diagnosis.specs.Laws.{read_is_tiled}
+use Rattle.diagnosis.proofs.Laws.{read_is_tiled}
 use mathlib.Core.Path.{sym, ◌∙◌}
 use native.Mathlib.Omega.{arith}
 use borrow.Author.Rules.{rules}

@@ -1,5 +1,5 @@
 -- `content_writer::writing::write_answer` meets its contract: each content has its writer.
-use Rattle.octets.specs.Front.{refused}
+use Rattle.octets.proofs.Front.{refused}
 use Rattle.content.specs.Writing.{bytes_for, answer_verdict}
 use borrow.Author.Rules.{rules}
 use Rattle.content_writer.proofs.writing.write_answer.Statement.{statement}

@@ -2,7 +2,8 @@
 use mathlib.Core.Path.{◌≡◌}
 use borrow.Author.Tests.{lt-ltb, le-ltb}
 use borrow.Author.Rules.{rules}
-use Rattle.octets.specs.Front.{fine, at_front, refused, too_small, stored}
+use Rattle.octets.specs.Front.{fine}
+use Rattle.octets.proofs.Front.{at_front, refused, too_small, stored}
 use Rattle.content.specs.Writing.{at_most}
 use Rattle.content_writer.proofs.writing.write_at_most.Statement.{statement}
 use Rattle.content_writer.proofs.writing.write_at_most.Tie as tie

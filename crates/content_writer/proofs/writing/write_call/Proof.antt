@@ -1,5 +1,5 @@
 -- `content_writer::writing::write_call` meets its contract: each content has its writer.
-use Rattle.octets.specs.Front.{refused}
+use Rattle.octets.proofs.Front.{refused}
 use Rattle.content.specs.Writing.{bytes_for, call_verdict}
 use borrow.Author.Rules.{rules}
 use Rattle.content_writer.proofs.writing.write_call.Statement.{statement}

@@ -1,5 +1,5 @@
 -- `control::command::put` meets its contract. Two bytes are stored in turn.
-use Rattle.octets.specs.Front.{stores}
+use Rattle.octets.proofs.Front.{stores}
 use Rattle.control.specs.Command.{fixed_bytes}
 use Rattle.control.proofs.command.put.Goals as goal
 

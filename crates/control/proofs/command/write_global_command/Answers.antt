@@ -3,7 +3,8 @@ use mathlib.Core.Path.{◌≡◌, sym, ap, ◌∙◌}
 use mathlib.Core.Bool.{not}
 use native.Mathlib.Omega.{arith}
 use borrow.Author.Tests.{eq-eqb, ne_eqb}
-use Rattle.octets.specs.Front.{fine, refused, too_small, both_written}
+use Rattle.octets.specs.Front.{fine}
+use Rattle.octets.proofs.Front.{refused, too_small, both_written}
 use Rattle.control.specs.Command.{verdict_of, verdict_for, bytes_for}
 use Rattle.control.proofs.command.write_global_command.Goals as goal
 

@@ -7,12 +7,12 @@ use native.Mathlib.Omega.{arith}
 use lib.ListN.{length}
 use borrow.Author.Rules.{rules}
 use Rattle.fdl.specs.Around.{good_fields}
-use Rattle.fdl.specs.Lemmas.Around.{Fit, fit}
+use Rattle.fdl.proofs.Lemmas.Around.{Fit, fit}
 use Rattle.fdl.specs.Writing.{telegram_of}
 use Rattle.fdl.specs.declared.telegram.Format.TheVariants.{Sd2}
 use Rattle.fdl.specs.declared.telegram.Header.{Header}
 use Rattle.acyclic.specs.declared.calls.Call.TheVariants as call
-use Rattle.content.specs.Laws.{bytes_long}
+use Rattle.content.proofs.Laws.{bytes_long}
 use Rattle.content.specs.Writing.{bytes_for}
 use Rattle.content.specs.declared.fields.Content.TheVariants as content
 use Rattle.protocol.specs.Line.{go}

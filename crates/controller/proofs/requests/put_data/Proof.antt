@@ -5,7 +5,7 @@ use Prim.Native.Nat.{ℕ}
 use native.Mathlib.Omega.{arith}
 use lib.ListN.{length, length-set, length-append}
 use borrow.Author.Rules.{rules}
-use Rattle.octets.specs.Front.{stores, both_stored}
+use Rattle.octets.proofs.Front.{stores, both_stored}
 use Rattle.content.specs.Writing.{bytes_for}
 use Rattle.controller.proofs.requests.put_data.Statement.{statement}
 use Rattle.controller.proofs.requests.put_data.Tie as tie

@@ -3,8 +3,8 @@ use mathlib.Core.Path.{refl}
 use mathlib.Core.List.{[]}
 use lib.ListN.{length}
 use borrow.Author.Rules.{rules}
-use Rattle.fdl.specs.Around.{user_none}
-use Rattle.fdl.specs.Lemmas.Around.{fit}
+use Rattle.fdl.proofs.Around.{user_none}
+use Rattle.fdl.proofs.Lemmas.Around.{fit}
 use Rattle.fdl.specs.Writing.{telegram_of}
 use Rattle.fdl.specs.declared.telegram.Format.TheVariants.{Sd2}
 use Rattle.fdl.specs.declared.telegram.Header.{Header}

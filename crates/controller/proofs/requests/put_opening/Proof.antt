@@ -5,7 +5,7 @@ use Rattle.fdl.specs.declared.telegram.Format.TheVariants.{Sd2}
 use Rattle.content.specs.Writing.{bytes_for}
 use Rattle.content.specs.declared.fields.Content.TheVariants as content
 use Rattle.service.specs.Writing.{telegram_for}
-use Rattle.protocol.specs.Lemmas.Read.{opening_fine}
+use Rattle.protocol.proofs.Lemmas.Read.{opening_fine}
 use Rattle.protocol.specs.Telegrams.{opening_code}
 use Rattle.controller.proofs.Written.{may}
 use Rattle.controller.proofs.requests.put_opening.Statement.{statement}

@@ -6,7 +6,7 @@ use Rattle.acyclic.specs.declared.calls.Call.TheVariants as call
 use Rattle.content.specs.Writing.{bytes_for}
 use Rattle.content.specs.declared.fields.Content.TheVariants as content
 use Rattle.service.specs.Writing.{telegram_for}
-use Rattle.protocol.specs.Lemmas.Read.{poll_fine}
+use Rattle.protocol.proofs.Lemmas.Read.{poll_fine}
 use Rattle.protocol.specs.Telegrams.{counted_code}
 use Rattle.controller.proofs.Written.{may}
 use Rattle.controller.proofs.requests.put_poll.Statement.{statement}

@@ -1,7 +1,7 @@
 -- `controller_input::replies::routed` meets its contract: by the route.
 use mathlib.Core.Path.{◌≡◌, sym, ap, ◌∙◌}
 use Rattle.access.specs.Route.{route_of}
-use Rattle.access.specs.Laws.{class_route}
+use Rattle.access.proofs.Laws.{class_route}
 use Rattle.access.specs.declared.route.Route.{Route}
 use Rattle.controller_input.specs.Meaning.{got_of_route}
 use borrow.Author.Rules.{rules}

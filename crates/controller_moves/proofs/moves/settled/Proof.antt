@@ -6,7 +6,7 @@ use mathlib.Core.List.{List}
 use Prim.Native.Nat.{ℕ}
 use mathlib.Core.Bool.{not}
 use Rattle.book.specs.Contents.{templates_of}
-use Rattle.book.specs.Laws.{templates_in_order}
+use Rattle.book.proofs.Laws.{templates_in_order}
 use Rattle.controller_state.specs.Templates.{Holds, holds, none_left, one_left}
 use Rattle.controller_moves.proofs.Following.{behind}
 use borrow.Author.Rules.{rules}

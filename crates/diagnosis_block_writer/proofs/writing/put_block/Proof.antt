@@ -4,7 +4,7 @@ use mathlib.Core.List.{[], ◌∷◌}
 use native.Mathlib.Omega.{arith}
 use lib.ListN.{length-set}
 use borrow.Author.Rules.{rules}
-use Rattle.octets.specs.Front.{stores, both_stored}
+use Rattle.octets.proofs.Front.{stores, both_stored}
 use Rattle.diagnosis_block_writer.proofs.writing.put_block.Statement.{statement}
 use Rattle.diagnosis_block_writer.proofs.writing.put_block.Tie as tie
 

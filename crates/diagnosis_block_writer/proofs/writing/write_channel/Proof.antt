@@ -7,8 +7,9 @@ use lib.ListN.{length-set}
 use lib.Dec.{leb}
 use borrow.Author.Rules.{rules}
 use borrow.Author.Tests.{lt-ltb, le-ltb, eq-eqb, ne_eqb, leb-true, not-true, not-false}
-use Rattle.octets.specs.Choice.{and_left, and_right}
-use Rattle.octets.specs.Front.{fine, stores, refused, too_small, stored}
+use Rattle.octets.proofs.Choice.{and_left, and_right}
+use Rattle.octets.specs.Front.{fine}
+use Rattle.octets.proofs.Front.{stores, refused, too_small, stored}
 use Rattle.diagnosis.specs.Writing.{fits, channel_bytes, channel_verdict}
 use Rattle.diagnosis.specs.declared.walk.Channel.{Channel}
 use Rattle.diagnosis_block_writer.proofs.writing.write_channel.Statement.{statement}

@@ -6,7 +6,8 @@ use native.Mathlib.Omega.{arith}
 use lib.ListN.{length}
 use borrow.Author.Rules.{rules}
 use borrow.Author.Tests.{lt-ltb, le-ltb}
-use Rattle.octets.specs.Front.{fine, refused, too_small, stored}
+use Rattle.octets.specs.Front.{fine}
+use Rattle.octets.proofs.Front.{refused, too_small, stored}
 use Rattle.diagnosis.specs.Writing.{sized_verdict}
 use Rattle.diagnosis_block_writer.proofs.writing.write_sized.Statement.{statement}
 use Rattle.diagnosis_block_writer.proofs.writing.write_sized.Tie as tie

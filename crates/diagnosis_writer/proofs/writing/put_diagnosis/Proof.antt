@@ -1,6 +1,6 @@
 -- `diagnosis_writer::writing::put_diagnosis` meets its contract. Two stores: the blocks behind the header.
 use borrow.Author.Rules.{rules}
-use Rattle.octets.specs.Front.{both_stored}
+use Rattle.octets.proofs.Front.{both_stored}
 use Rattle.diagnosis_writer.proofs.writing.put_diagnosis.Statement.{statement}
 use Rattle.diagnosis_writer.proofs.writing.put_diagnosis.Tie as tie
 

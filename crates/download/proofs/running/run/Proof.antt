@@ -1,11 +1,11 @@
 -- `download::running::run` meets its contract: what is refused changes nothing.
 use mathlib.Core.Path.{sym, ap, ◌∙◌}
 use borrow.Author.Rules.{rules}
-use Rattle.octets.specs.Fixed.{fault_fine}
+use Rattle.octets.proofs.Fixed.{fault_fine}
 use Rattle.protocol.specs.Check.{verdict_in}
 use Rattle.protocol.specs.Download.{download_of}
 use Rattle.protocol.specs.Printer.{lending}
-use Rattle.protocol.specs.Theorem.{downloads}
+use Rattle.protocol.proofs.Theorem.{downloads}
 use Rattle.download.proofs.running.run.Statement.{statement}
 use Rattle.download.proofs.running.run.Tie as tie
 

@@ -9,7 +9,7 @@ use lib.Seq.{length-take-le}
 use borrow.Author.Rules.{rules}
 use Rattle.protocol.specs.Printer.{lending}
 use Rattle.protocol.specs.Download.{bound, given, passages_of}
-use Rattle.protocol.specs.Lemmas.Accepted.{Taken, taken}
+use Rattle.protocol.proofs.Lemmas.Accepted.{Taken, taken}
 use Rattle.download.proofs.Present.{Due, Present, bound_small, begins, steps_so, more_left, hears_it, goes_on, ended_so, not_refused_now, reply_room, request_room}
 use Rattle.download.proofs.running.until_ended.Statement.{statement}
 use Rattle.download.proofs.running.until_ended.Tie as tie

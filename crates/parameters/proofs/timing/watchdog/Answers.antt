@@ -4,7 +4,7 @@ use native.Mathlib.Nat.{mul-le-mul}
 use native.Mathlib.Omega.{arith}
 use lib.Dec.{eqb}
 use borrow.Author.Rules.{rules}
-use Rattle.octets.specs.Choice.{by_pick}
+use Rattle.octets.proofs.Choice.{by_pick}
 use Rattle.parameters.specs.Timing.{base_of}
 use Rattle.parameters.specs.declared.fields.Extension.{Extension}
 use Rattle.parameters.specs.declared.fields.Extension.TheVariants.{Dpv0, Dpv1}

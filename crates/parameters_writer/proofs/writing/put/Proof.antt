@@ -1,9 +1,9 @@
 -- `parameters_writer::writing::put` meets its contract. Two stores: the user bytes behind what stands before them.
 use native.Mathlib.Omega.{arith}
 use borrow.Author.Rules.{rules}
-use Rattle.octets.specs.Front.{first_fits, both_stored}
+use Rattle.octets.proofs.Front.{first_fits, both_stored}
 use Rattle.parameters.specs.Writing.{front_bytes}
-use Rattle.parameters.specs.Lemmas.Fields.{front_length}
+use Rattle.parameters.proofs.Lemmas.Fields.{front_length}
 use Rattle.parameters_writer.proofs.writing.put.Statement.{statement}
 use Rattle.parameters_writer.proofs.writing.put.Tie as tie
 

@@ -4,10 +4,10 @@ use Prim.Native.Nat.{◌≤◌}
 use native.Mathlib.Omega.{arith}
 use lib.ListN.{length, length-set}
 use borrow.Author.Rules.{rules}
-use Rattle.octets.specs.Front.{stores}
+use Rattle.octets.proofs.Front.{stores}
 use Rattle.parameters.specs.Fields.{mode_of}
 use Rattle.parameters.specs.Writing.{fixed_bytes}
-use Rattle.parameters.specs.Lemmas.Fields.{fixed_least}
+use Rattle.parameters.proofs.Lemmas.Fields.{fixed_least}
 use Rattle.parameters_writer.proofs.writing.put_front.Statement.{statement}
 use Rattle.parameters_writer.proofs.writing.put_front.Tie as tie
 

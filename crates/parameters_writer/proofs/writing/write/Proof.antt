@@ -7,10 +7,11 @@ use native.Mathlib.Omega.{arith}
 use lib.ListN.{length}
 use borrow.Author.Rules.{rules}
 use borrow.Author.Tests.{lt-ltb, le-ltb, not-true, not-false}
-use Rattle.octets.specs.Front.{Verdict, fine, fault, refused, too_small, stored}
+use Rattle.octets.specs.Front.{Verdict, fine, fault}
+use Rattle.octets.proofs.Front.{refused, too_small, stored}
 use Rattle.parameters.specs.Fields.{mode_of, fixed_length, extension_verdict, verdict_of}
 use Rattle.parameters.specs.Writing.{bytes_for, user_start, verdict_for}
-use Rattle.parameters.specs.Lemmas.Fields.{fixed_most, bytes_length, extension_verdict_lem}
+use Rattle.parameters.proofs.Lemmas.Fields.{fixed_most, bytes_length, extension_verdict_lem}
 use Rattle.parameters_writer.proofs.writing.write.Statement.{statement}
 use Rattle.parameters_writer.proofs.writing.write.Tie as tie
 

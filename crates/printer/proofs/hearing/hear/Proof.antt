@@ -1,7 +1,7 @@
 -- `printer::hearing::hear` meets its contract. One case for each that is received.
 use mathlib.Core.Path.{◌≡◌, ap, ◌∙◌}
 use borrow.Author.Rules.{rules}
-use Rattle.protocol.specs.MachineLaws.Replies.{Comes}
+use Rattle.protocol.proofs.MachineLaws.Replies.{Comes}
 use Rattle.protocol.specs.Printer as printer
 use Rattle.protocol.specs.Printer.{opening_reply, opened, reply_bytes, saying, heard_by, hear, Station, lending, Stepped, leaving, stepped}
 use Rattle.protocol.specs.declared.printer.Reaction.{Reaction}

@@ -3,7 +3,7 @@ use mathlib.Core.List.{[], ◌∷◌}
 use native.Mathlib.Omega.{arith}
 use lib.ListN.{length-set}
 use borrow.Author.Rules.{rules}
-use Rattle.octets.specs.Front.{stores}
+use Rattle.octets.proofs.Front.{stores}
 use Rattle.content.specs.Writing.{bytes_for}
 use Rattle.printer.proofs.replies.put_result.Statement.{statement}
 use Rattle.printer.proofs.replies.put_result.Tie as tie

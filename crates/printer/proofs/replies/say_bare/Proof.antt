@@ -4,13 +4,13 @@ use mathlib.Core.List.{List, []}
 use Prim.Native.Nat.{ℕ}
 use borrow.Author.Rules.{rules}
 use Rattle.octets.specs.Front.{fine}
-use Rattle.fdl.specs.Around.{user_none}
+use Rattle.fdl.proofs.Around.{user_none}
 use Rattle.fdl.specs.Writing.{telegram_of, verdict_of}
 use Rattle.fdl.specs.declared.telegram.Format.TheVariants.{Sd1}
 use Rattle.fdl.specs.declared.telegram.Header.{Header}
 use Rattle.fdl.specs.declared.telegram.Sap.TheVariants.{Absent}
 use Rattle.access.specs.Route.{header_with}
-use Rattle.protocol.specs.MachineLaws.Replies.{bare_fine}
+use Rattle.protocol.proofs.MachineLaws.Replies.{bare_fine}
 use Rattle.printer_rules.specs.Meaning.{function_of}
 use Rattle.printer.proofs.Sent.{small, sent, short, bare_class}
 use Rattle.printer.proofs.replies.say_bare.Statement.{statement}

@@ -7,7 +7,7 @@ use Rattle.octets.specs.Front.{fine}
 use Rattle.fdl.specs.Writing.{telegram_of, verdict_of}
 use Rattle.fdl.specs.declared.telegram.Format.TheVariants.{Sd2}
 use Rattle.fdl.specs.declared.telegram.Header.{Header}
-use Rattle.protocol.specs.Lemmas.Replies.{diagnosis_fine}
+use Rattle.protocol.proofs.Lemmas.Replies.{diagnosis_fine}
 use Rattle.printer.proofs.Sent.{small, sent, as_said, short}
 use Rattle.printer.proofs.replies.say_diagnosis.Statement.{statement}
 use Rattle.printer.proofs.replies.say_diagnosis.Tie as tie

@@ -5,13 +5,14 @@ use Prim.Native.Nat.{ℕ, ◌+◌, ◌≤◌}
 use native.Mathlib.Omega.{arith}
 use lib.ListN.{length}
 use borrow.Author.Rules.{rules}
-use Rattle.octets.specs.Front.{fine, lent_length}
+use Rattle.octets.specs.Front.{fine}
+use Rattle.octets.proofs.Front.{lent_length}
 use Rattle.fdl.specs.Writing.{telegram_of, verdict_of}
 use Rattle.fdl.specs.declared.telegram.Format.TheVariants.{Sd2}
 use Rattle.fdl.specs.declared.telegram.Header.{Header}
 use Rattle.content.specs.Writing.{bytes_for}
 use Rattle.content.specs.declared.fields.Content.TheVariants as content
-use Rattle.protocol.specs.Lemmas.Read.{outcome_telegram}
+use Rattle.protocol.proofs.Lemmas.Read.{outcome_telegram}
 use Rattle.protocol.specs.Telegrams.{answer_of}
 use Rattle.printer.proofs.Sent.{as_said, place_fits, around_small, around_sent, result_long, result_fine}
 use Rattle.printer.proofs.replies.say_result.Statement.{statement}

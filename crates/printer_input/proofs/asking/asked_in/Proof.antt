@@ -6,7 +6,7 @@ use native.Mathlib.Omega.{arith}
 use lib.ListN.{length}
 use borrow.Author.Tests.{not-true, not-false}
 use Rattle.octets.specs.Choice.{pick}
-use Rattle.octets.specs.Part.{part_short}
+use Rattle.octets.proofs.PartLaws.{part_short}
 use Rattle.octets.specs.declared.Mode.TheVariants as mode
 use Prim.Native.Nat.{ℕ}
 use Rattle.fdl.specs.declared.reading.Reading.{Reading}

@@ -3,10 +3,10 @@ use mathlib.Core.Path.{◌≡◌, sym, ap, ◌∙◌}
 use native.Mathlib.Omega.{arith}
 use Rattle.octets.specs.declared.Mode.TheVariants.{Dpv1}
 use Rattle.access.specs.Route.{route_of}
-use Rattle.access.specs.Laws.{class_route}
+use Rattle.access.proofs.Laws.{class_route}
 use Rattle.access.specs.declared.route.Route.{Route}
 use Rattle.content.specs.Reading.{end_of}
-use Rattle.content.specs.Lemmas.Inside.{call_inside}
+use Rattle.content.proofs.Lemmas.Inside.{call_inside}
 use Rattle.content.specs.declared.reading.UserData.{UserData}
 use Rattle.service.specs.Reading.{placed_at, routed_by}
 use Rattle.service.specs.declared.reading.Way.TheVariants as way

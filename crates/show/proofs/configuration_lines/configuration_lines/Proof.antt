@@ -1,6 +1,6 @@
 -- A configuration that is accepted has at most 244 bytes on each side, so that the totals fit 16 bits; the search finds the other needs.
 use Rattle.std.proofs.Common.{sym, ◌∙◌, arith, rules}
-use Rattle.configuration.specs.Laws.{Totals, totals_are_sums}
+use Rattle.configuration.proofs.Laws.{Totals, totals_are_sums}
 use Rattle.show.proofs.configuration_lines.configuration_lines.Statement.{statement}
 use Rattle.show.proofs.configuration_lines.configuration_lines.Tie as tie
 

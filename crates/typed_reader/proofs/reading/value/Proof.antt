@@ -8,9 +8,9 @@ use borrow.Author.Rules.{rules}
 use borrow.Author.Tests.{ne_eqb}
 use Rattle.octets.specs.Number.{number_of}
 use Rattle.typed.specs.Value.{Kind, floating, kind_of, width_in, width_of, value_of}
-use Rattle.typed.specs.Lemmas.Again.{single}
+use Rattle.typed.proofs.Lemmas.Again.{single}
 use Rattle.typed.specs.declared.value.Value.TheVariants.{I8, I16, I32}
-use Rattle.typed.specs.Lemmas.Complement.{into}
+use Rattle.typed.proofs.Lemmas.Complement.{into}
 use Rattle.typed_reader.proofs.reading.value.Statement.{statement}
 use Rattle.typed_reader.proofs.reading.value.Tie as tie
 

@@ -1,7 +1,7 @@
 -- `typed_reader::reading::word` meets its contract: all that is behind the code is two bytes.
 use mathlib.Core.Path.{sym, ap, ◌∙◌}
 use borrow.Author.Rules.{rules}
-use Rattle.octets.specs.Elements.{rest_elements}
+use Rattle.octets.proofs.Elements.{rest_elements}
 use Rattle.octets.specs.Number.{number_of}
 use Rattle.typed_reader.proofs.reading.word.Statement.{statement}
 use Rattle.typed_reader.proofs.reading.word.Tie as tie

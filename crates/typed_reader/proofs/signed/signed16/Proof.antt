@@ -1,7 +1,7 @@
 -- `typed_reader::signed::signed16` meets its contract: the upper half of the patterns goes by the complement.
 use borrow.Author.Rules.{rules}
 use mir.Syntax.{w16}
-use Rattle.typed.specs.Lemmas.Complement.{twice}
+use Rattle.typed.proofs.Lemmas.Complement.{twice}
 use Rattle.typed_reader.proofs.signed.signed16.Statement.{statement}
 use Rattle.typed_reader.proofs.signed.signed16.Tie as tie
 

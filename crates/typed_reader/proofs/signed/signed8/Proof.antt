@@ -1,7 +1,7 @@
 -- `typed_reader::signed::signed8` meets its contract: the upper half of the patterns goes by the complement.
 use borrow.Author.Rules.{rules}
 use mir.Syntax.{w8}
-use Rattle.typed.specs.Lemmas.Complement.{twice}
+use Rattle.typed.proofs.Lemmas.Complement.{twice}
 use Rattle.typed_reader.proofs.signed.signed8.Statement.{statement}
 use Rattle.typed_reader.proofs.signed.signed8.Tie as tie
 

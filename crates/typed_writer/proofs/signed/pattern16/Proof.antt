@@ -1,6 +1,6 @@
 -- `typed_writer::signed::pattern16` meets its contract: a negative number goes by its complement.
 use mir.Syntax.{w16}
-use Rattle.typed.specs.Lemmas.Complement.{flipped_fits, flipped_below, flipped_back, kept_fits, kept_back}
+use Rattle.typed.proofs.Lemmas.Complement.{flipped_fits, flipped_below, flipped_back, kept_fits, kept_back}
 use Rattle.typed_writer.proofs.signed.pattern16.Statement.{statement}
 use Rattle.typed_writer.proofs.signed.pattern16.Tie as tie
 

@@ -1,6 +1,6 @@
 -- `typed_writer::signed::pattern8` meets its contract: a negative number goes by its complement.
 use mir.Syntax.{w8}
-use Rattle.typed.specs.Lemmas.Complement.{flipped_fits, flipped_below, flipped_back, kept_fits, kept_back}
+use Rattle.typed.proofs.Lemmas.Complement.{flipped_fits, flipped_below, flipped_back, kept_fits, kept_back}
 use Rattle.typed_writer.proofs.signed.pattern8.Statement.{statement}
 use Rattle.typed_writer.proofs.signed.pattern8.Tie as tie
 

@@ -1,7 +1,7 @@
 -- `typed_writer::writing::write` meets its contract: each arm writes the code and the pattern of its case.
 use mir.Syntax.{w8, w16, w32}
 use borrow.Author.Rules.{rules}
-use Rattle.typed.specs.Lemmas.Complement.{out_of}
+use Rattle.typed.proofs.Lemmas.Complement.{out_of}
 use Rattle.typed_writer.proofs.writing.write.Statement.{statement}
 use Rattle.typed_writer.proofs.writing.write.Tie as tie
 

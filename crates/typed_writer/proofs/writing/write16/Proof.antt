@@ -3,7 +3,7 @@ use mathlib.Core.Path.{◌∙◌}
 use native.Mathlib.Omega.{arith}
 use lib.ListN.{length-set}
 use borrow.Author.Rules.{rules}
-use Rattle.octets.specs.Front.{too_small}
+use Rattle.octets.proofs.Front.{too_small}
 use Rattle.typed_writer.proofs.Coded.{most, behind_code}
 use Rattle.typed_writer.proofs.writing.write16.Statement.{statement}
 use Rattle.typed_writer.proofs.writing.write16.Tie as tie

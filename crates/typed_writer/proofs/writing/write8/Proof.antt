@@ -5,7 +5,7 @@ use Prim.Native.Nat.{◌%◌}
 use native.Mathlib.Omega.{arith}
 use lib.ListN.{length-set}
 use borrow.Author.Rules.{rules}
-use Rattle.octets.specs.Front.{stores, too_small, stored}
+use Rattle.octets.proofs.Front.{stores, too_small, stored}
 use Rattle.typed_writer.proofs.writing.write8.Statement.{statement}
 use Rattle.typed_writer.proofs.writing.write8.Tie as tie
 

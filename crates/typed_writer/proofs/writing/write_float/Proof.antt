@@ -1,8 +1,8 @@
 -- `typed_writer::writing::write_float` meets its contract: a number with a pattern is written by it.
 use mathlib.Core.Path.{sym, ◌∙◌}
 use borrow.Author.Rules.{rules}
-use Rattle.octets.specs.Front.{refused}
-use Rattle.float.specs.Float.{known, unknown}
+use Rattle.octets.proofs.Front.{refused}
+use Rattle.float.proofs.Float.{known, unknown}
 use Rattle.typed.specs.Writing.{bytes_for}
 use Rattle.typed.specs.declared.value.Value.TheVariants.{Float}
 use Rattle.typed_writer.proofs.writing.write_float.Statement.{statement}

@@ -2,7 +2,7 @@
 use mathlib.Core.Path.{sym, ap, ◌∙◌}
 use mathlib.Core.Bool.{not}
 use borrow.Author.Rules.{rules}
-use Rattle.octets.specs.Front.{refused}
+use Rattle.octets.proofs.Front.{refused}
 use Rattle.typed.specs.Writing.{bytes_for}
 use Rattle.typed.specs.declared.value.Value.TheVariants.{Nan}
 use Rattle.typed_writer.proofs.writing.write_nan.Statement.{statement}

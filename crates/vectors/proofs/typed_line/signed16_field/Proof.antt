@@ -2,7 +2,7 @@
 use native.Mathlib.Omega.{arith}
 use mir.Syntax.{w16}
 use borrow.Author.Rules.{rules}
-use Rattle.typed.specs.Lemmas.Complement.{flipped_fits, flipped_below, kept_fits}
+use Rattle.typed.proofs.Lemmas.Complement.{flipped_fits, flipped_below, kept_fits}
 use Rattle.vectors.proofs.typed_line.signed16_field.Statement.{statement}
 use Rattle.vectors.proofs.typed_line.signed16_field.Tie as tie
 

@@ -2,7 +2,7 @@
 use native.Mathlib.Omega.{arith}
 use mir.Syntax.{w32}
 use borrow.Author.Rules.{rules}
-use Rattle.typed.specs.Lemmas.Complement.{flipped_fits, kept_fits}
+use Rattle.typed.proofs.Lemmas.Complement.{flipped_fits, kept_fits}
 use Rattle.vectors.proofs.typed_line.signed32_field.Statement.{statement}
 use Rattle.vectors.proofs.typed_line.signed32_field.Tie as tie
 

@@ -1,0 +1,3 @@
+pub mod Laws
+pub mod Lemmas
+pub mod Refusals

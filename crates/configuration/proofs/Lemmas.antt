@@ -1,0 +1,9 @@
+pub mod Accepted
+pub mod Again
+pub mod All
+pub mod Back
+pub mod Bytes
+pub mod One
+pub mod Sides
+pub mod Steps
+pub mod Sums

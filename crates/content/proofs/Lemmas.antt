@@ -1,0 +1,4 @@
+pub mod Again
+pub mod Back
+pub mod Inside
+pub mod Lengths

@@ -1,4 +1,0 @@
-pub mod Lengths
-pub mod Inside
-pub mod Back
-pub mod Again

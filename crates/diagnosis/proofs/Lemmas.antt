@@ -1,0 +1,10 @@
+pub mod Again
+pub mod Back
+pub mod Blocks
+pub mod Bytes
+pub mod Found
+pub mod Judged
+pub mod Map
+pub mod Reads
+pub mod Steps
+pub mod Written

@@ -1,0 +1,5 @@
+pub mod Accepted
+pub mod Laws
+pub mod Lemmas
+pub mod Refusals
+pub mod Reporting

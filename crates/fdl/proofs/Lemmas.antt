@@ -1,0 +1,9 @@
+pub mod Again
+pub mod Around
+pub mod Back
+pub mod Changed
+pub mod Classed
+pub mod Extends
+pub mod Fields
+pub mod Long
+pub mod Reads

@@ -1,9 +1,0 @@
-pub mod Extends
-pub mod Reads
-pub mod Fields
-pub mod Around
-pub mod Back
-pub mod Again
-pub mod Changed
-pub mod Long
-pub mod Classed

@@ -1,0 +1,16 @@
+pub mod Accepted
+pub mod Chain
+pub mod Ends
+pub mod Follows
+pub mod Groups
+pub mod Hearing
+pub mod Means
+pub mod Meets
+pub mod Opening
+pub mod Ours
+pub mod Read
+pub mod Replies
+pub mod Runs
+pub mod Shape
+pub mod Slots
+pub mod Stored

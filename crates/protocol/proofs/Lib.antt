@@ -1,0 +1,7 @@
+pub mod CardsTheorem
+pub mod Lemmas
+pub mod MachineLaws
+pub mod Refusals
+pub mod Theorem
+pub mod VerdictLaws
+pub mod Worked

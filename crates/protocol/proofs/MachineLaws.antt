@@ -1,0 +1,13 @@
+pub mod Answers
+pub mod Calls
+pub mod Controller
+pub mod Got
+pub mod Memory
+pub mod Moves
+pub mod Printer
+pub mod Replies
+pub mod Room
+pub mod States
+pub mod Stations
+pub mod Steps
+pub mod WorkedCalls

@@ -1,0 +1,4 @@
+pub mod Laws
+pub mod Lemmas
+pub mod Refusals
+pub mod Worked
