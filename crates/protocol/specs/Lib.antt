@@ -13,3 +13,4 @@ pub mod Endings
 pub mod Course
 pub mod Demand
 pub mod Cards
+pub mod MachineLaws

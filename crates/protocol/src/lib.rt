@@ -2,6 +2,7 @@
 // download"): what each remembers, and what each answers. What they do is defined in specs/, with
 // the customer's third demand; nothing here runs.
 #![tactic(auto)]
+
 mod check;
 mod controller;
 mod download;

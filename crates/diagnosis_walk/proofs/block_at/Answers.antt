@@ -4,7 +4,7 @@ use Prim.Native.Nat.{ℕ, ◌+◌, ◌-◌, ◌≤◌}
 use native.Mathlib.Omega.{arith}
 use lib.ListN.{length, take, drop, length-take, length-drop}
 use Rattle.diagnosis.specs.Walk.{behind}
-use Rattle.diagnosis.specs.Lemmas.Found.{Within, within_at, three_at}
+use Rattle.diagnosis.proofs.Lemmas.Found.{Within, within_at, three_at}
 use Rattle.diagnosis_walk.proofs.block_at.Goals as goal
 
 pub overflow_sub-result : goal.overflow_sub-result

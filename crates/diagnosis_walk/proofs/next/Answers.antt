@@ -7,7 +7,7 @@ use borrow.Author.Tests.{lt-ltb, le-ltb, eq-eqb, ne_eqb}
 use borrow.Author.Rules.{rules}
 use Rattle.diagnosis.specs.Block.{found_at}
 use Rattle.diagnosis.specs.Walk.{next_of}
-use Rattle.diagnosis.specs.Lemmas.Found.{within_at}
+use Rattle.diagnosis.proofs.Lemmas.Found.{within_at}
 use Rattle.diagnosis.specs.declared.block.Found.TheVariants.{Is}
 use Rattle.diagnosis_walk.proofs.next.Goals as goal
 

@@ -298,7 +298,7 @@ module _ {P O E : Type 0} {hear : P → List ℕ → Answered P} {step : O → L
         rw none (ap (λ y. y.printer) (once l d p h (asks k) n) ∙ rw or_false)
     hears (more {k} {l} t x) d p h n (suc v) le =
         ap (λ y. (run hear step v y).printer) (unanswered l d p h k n t)
-        ∙ hears x (damage_rest Bad l d) (pick (arrives (passage_of l)) p' p) (still p h (arrives (passage_of l))) (suc n) v (omega arith)
+        ∙ hears {k = k} x (damage_rest Bad l d) (pick (arrives (passage_of l)) p' p) (still p h (arrives (passage_of l))) (suc n) v (omega arith)
         ∙ rw pick_or
 
     module _ (k : ℕ) (l : List Passage) (d : Damage Bad l) (p : P) (h : Hears p) (n : ℕ) where

@@ -1,5 +1,5 @@
 -- `diagnosis_writer::writing::put_diagnosis` meets its contract. Two stores: the blocks behind the header.
-use Rattle.octets.specs.Front.{both_stored}
+use Rattle.octets.proofs.Front.{both_stored}
 use Rattle.diagnosis_writer.proofs.writing.put_diagnosis.Goals as goal
 
 pub returns : goal.returns

@@ -5,7 +5,8 @@ use native.Mathlib.Omega.{arith}
 use lib.ListN.{take, length-set}
 use lib.Seq.{sets}
 use Rattle.octets.specs.Number.{bytes_of}
-use Rattle.octets.specs.Front.{AtFront, at_front, stores, rest_fits, both}
+use Rattle.octets.specs.Front.{AtFront}
+use Rattle.octets.proofs.Front.{at_front, stores, rest_fits, both}
 use Rattle.diagnosis.specs.Writing.{header_bytes}
 use Rattle.diagnosis.specs.declared.reading.Header.{Header}
 use Rattle.diagnosis_writer.proofs.writing.put_header.Goals as goal

@@ -3,7 +3,8 @@ use mathlib.Core.Path.{◌≡◌, sym, ap}
 use mathlib.Core.List.{List}
 use Prim.Native.Nat.{ℕ}
 use native.Mathlib.Omega.{arith}
-use Rattle.octets.specs.Front.{Verdict, fine, refused, too_small, stored}
+use Rattle.octets.specs.Front.{Verdict, fine}
+use Rattle.octets.proofs.Front.{refused, too_small, stored}
 use Rattle.diagnosis.specs.Writing.{diagnosis_bytes, verdict_by, verdict_of}
 use Rattle.diagnosis_writer.proofs.writing.write.Goals as goal
 
