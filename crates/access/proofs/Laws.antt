@@ -172,14 +172,14 @@ module _ (h : Header) where
       by_answer (AgainBy kind.Answer h) h.ssap h.dsap tt (λ a e. same kind.Answer (answerer_of a) h.ssap h.dsap e)
   again_by kind.Other = tt
 
-  again_as : (r : Route) → AgainBy (kind_of h.fc) h r → Again r
+  again_as : (r : Route) → AgainBy (kind_of h.fc) h r → Again h r
   unfolding header_of
   again_as (route.Call s) e = e
   again_as (route.Answer a) e = e
   again_as route.Nowhere e = tt
 
   -- A header that leads to a service is the one that the service's telegram has with these addresses and this code.
-  pub header_again : Again (route_of h)
+  pub header_again : Again h (route_of h)
   unfolding route_of
   header_again = again_as (route_of h) (again_by (kind_of h.fc))
 

@@ -36,12 +36,11 @@ AgainBy k h (route.Call s) = header_by k h.da h.sa h.fc (points_of s) ≡ h
 AgainBy k h (route.Answer a) = header_by k h.da h.sa h.fc (points_of (answerer_of a)) ≡ h
 AgainBy k h route.Nowhere = Unit
 
-module _ (h : Header) where
-  -- the header is the one that the service of its route has
-  abbrev pub Again : Route → Type 0
-  Again (route.Call s) = header_of s h.da h.sa h.fc ≡ h
-  Again (route.Answer a) = header_of (answerer_of a) h.da h.sa h.fc ≡ h
-  Again route.Nowhere = Unit
+-- the header is the one that the service of its route has
+abbrev pub Again : Header → Route → Type 0
+Again h (route.Call s) = header_of s h.da h.sa h.fc ≡ h
+Again h (route.Answer a) = header_of (answerer_of a) h.da h.sa h.fc ≡ h
+Again h route.Nowhere = Unit
 
 -- ---- answers
 -- the access points, the slave's and the master's, from which an answer may come

@@ -5,4 +5,3 @@ pub mod Calls
 pub mod Answers
 pub mod Bytes
 pub mod Refusals
-pub mod Lemmas

@@ -1,5 +1,6 @@
 // Telegrams through the C interface, by the same eight fields for reading and writing.
 #![tactic(auto)]
+
 ghost use Rattle.std.specs.Prelude.{◌≡◌, length};
 ghost use Rattle.octets.specs.Front.{answer_by, held_by};
 ghost use Rattle.fdl.specs.Reading.{read_of};

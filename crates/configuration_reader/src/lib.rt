@@ -1,5 +1,6 @@
 // PROFIBUS DP configuration data, read whole: what its modules add up to, and where each begins.
 #![tactic(auto)]
+
 mod gathering;
 mod lists;
 mod reading;

@@ -36,7 +36,8 @@ use Rattle.diagnosis.proofs.Accepted.{diagnosis_accepted}
 use Rattle.diagnosis.specs.declared.reading.Reading as diagnosis-type
 use Rattle.diagnosis.specs.declared.reading.Reading.TheVariants as diagnosis-reading
 use Rattle.parameters.specs.Reading as parameters
-use Rattle.parameters.specs.Accepted as parameters_accepted
+use Rattle.parameters.proofs.Accepted as parameters_accepted
+use Rattle.parameters.specs.Accepted as parameters_accepted_words
 use Rattle.parameters.specs.declared.reading.Reading as parameters-type
 use Rattle.parameters.specs.declared.reading.Reading.TheVariants as parameters-reading
 use Rattle.access.specs.declared.table.Service.{Service}
@@ -65,7 +66,7 @@ CallData service.RdOutp u m = length u ≡ 0
 CallData service.GlobalControl u m = command_accepted_words.CommandBytes u
 CallData service.GetCfg u m = length u ≡ 0
 CallData service.SlaveDiag u m = length u ≡ 0
-CallData service.SetPrm u m = parameters_accepted.ParameterBytes u m
+CallData service.SetPrm u m = parameters_accepted_words.ParameterBytes u m
 CallData service.ChkCfg u m = IsConfiguration u
 
 abbrev pub AnswerData : Answering → (user : List ℕ) → Type 0
@@ -108,7 +109,7 @@ of_diagnosis : (r : diagnosis-type.Reading) (len : ℕ) → accepted (diagnosis_
 of_diagnosis (diagnosis-reading.Diagnosis h blocks) len = refl
 of_diagnosis (diagnosis-reading.Refused r) len = refl
 
-of_parameters : (r : parameters-type.Reading) → accepted (parameters_in r) ≡ parameters_accepted.accepted r
+of_parameters : (r : parameters-type.Reading) → accepted (parameters_in r) ≡ parameters_accepted_words.accepted r
 of_parameters (parameters-reading.Parameters f start len) = refl
 of_parameters (parameters-reading.Refused r) = refl
 

@@ -2,6 +2,7 @@
 // service's fields, and the definitions and laws of both ways; the crate content_reader reads, and content_writer
 // writes.
 #![tactic(auto)]
+
 mod fields;
 mod reading;
 

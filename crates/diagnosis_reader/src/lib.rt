@@ -1,5 +1,6 @@
 // Reading a diagnosis: each byte that can be refused has its own return, in document 01's order.
 #![tactic(auto)]
+
 ghost use Rattle.std.specs.Prelude.{◌≡◌, ◌≤◌, length, drop};
 ghost use Rattle.diagnosis.specs.Reading.{good_status1, good_status2, good_status3, good_master, ext_diag_agrees, count_of, agreed, judge, header_of, read_of};
 

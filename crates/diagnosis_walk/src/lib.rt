@@ -1,6 +1,7 @@
 // The walk over the blocks of a diagnosis, one block at a time. All that it looks at stays in the lent
 // bytes: a position is a place in them, and the parts of a block are places too.
 #![tactic(auto)]
+
 ghost use Rattle.std.specs.Prelude.{◌≡◌, ◌+◌, ◌≤◌, ◌<◌, length, get_or};
 ghost use Rattle.diagnosis.specs.Block.{found_at};
 ghost use Rattle.diagnosis.specs.Walk.{position, fields_of, block_of, next_of};

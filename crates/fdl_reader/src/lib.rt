@@ -1,6 +1,7 @@
 // Reading a telegram: each byte that can be refused has its own answer, in document 01's order. `access_point` and
 // `token` answer at one place, and not by returns: so the compiler keeps what they answer in registers.
 #![tactic(auto)]
+
 ghost use Rattle.std.specs.Prelude.{◌≡◌, ◌+◌, ◌≤◌, length};
 ghost use Rattle.function_code.specs.Code.{class_of, is_reserved};
 ghost use Rattle.fdl.specs.Reading.{extension_of, source_of, destination_of, fields_of, framed_of, token_of, read_of, with_class, classed_by, classed_of};

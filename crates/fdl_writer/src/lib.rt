@@ -1,6 +1,7 @@
 // Writing a telegram with fields at the front of a lent slice (document 01, "Telegram layouts"), held to the
 // definitions of the crate fdl.
 #![tactic(auto)]
+
 ghost use Rattle.std.specs.Prelude.{◌≡◌, ◌++◌, ◌∷◌, [], ◌+◌, ◌≤◌, length, take, drop};
 ghost use Rattle.octets.specs.Front.{AtFront, answer_by, held_by};
 ghost use Rattle.fdl.specs.Telegram.{sum_of, checksum_of};

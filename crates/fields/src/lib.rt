@@ -1,5 +1,6 @@
 // The kinds of telegram as bytes, in the layout of the C interface, and what every writer of it answers.
 #![tactic(auto)]
+
 mod kinds;
 mod outcome;
 

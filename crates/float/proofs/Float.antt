@@ -1,4 +1,4 @@
--- Patterns of 32 bits and the floating_point numbers that they stand for (IEEE 754, binary32), and that both come back.
+-- Patterns of 32 bits and the floating-point numbers that they stand for (IEEE 754, binary32), and that both come back.
 use Rattle.std.specs.Prelude.{ℕ, ◌<◌, ◌^◌, ◌≡◌, refl, Bool, true, false, not, T, Float}
 use Rattle.std.proofs.Common.{sym, ap, ◌∙◌, subst}
 use Rattle.std.specs.Float.{binary32}

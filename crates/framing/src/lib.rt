@@ -1,6 +1,7 @@
 // Which fields a telegram may be written with (document 01, "Telegram layouts"), where its user data begin,
 // and the telegrams without fields, token and short confirmation. The crate fdl_writer writes those with fields.
 #![tactic(auto)]
+
 ghost use Rattle.std.specs.Prelude.{◌≡◌, ◌+◌, length};
 ghost use Rattle.octets.specs.Front.{fine, answer_by, held_by};
 ghost use Rattle.function_code.specs.Code.{class_of};

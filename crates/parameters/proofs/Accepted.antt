@@ -1,19 +1,20 @@
 -- Which bytes are parameters (document 01, "Parameters"), in plain arithmetic. Document 01 counts bytes from 1.
 use Prim.Native.Nat.{ℕ, ◌/◌, ◌%◌, ◌≤◌}
-use Rattle.std.specs.Prelude.{◌≡◌, refl, not, List, [], ◌∷◌, length, eqb, ltb, leb}
+use Rattle.std.specs.Prelude.{◌≡◌, refl, ◌↔◌, not, List, [], ◌∷◌, length, eqb, ltb, leb}
 use Rattle.std.proofs.Math.Bool.{true}
 use Rattle.std.proofs.Common.{arith}
 use Rattle.std.proofs.Math.ListN.{get_or}
 use borrow.Author.Tests.{eqb-true, ltb-false, le-ltb, leb-true, le-leb, not-false}
-use Rattle.octets.proofs.Choice.{and_left, and_right}
+use Rattle.octets.proofs.Choice.{never, by_pick, and_left, and_right}
 use Rattle.octets.specs.Number.{bytes_of}
 use Rattle.octets.specs.Front.{fine}
-use Rattle.octets.proofs.Fixed.{passed}
+use Rattle.octets.proofs.Fixed.{by_verdict, passed}
 use Rattle.octets.specs.declared.Mode.{Mode}
 use Rattle.octets.specs.declared.Mode.TheVariants as mode
 use Rattle.parameters.specs.Fields.{fixed_length, good_flags, good_status1, good_status2, good_status3, extension_verdict, verdict_of}
 use Rattle.parameters.specs.Reading.{extension_in, fields_in, read_of}
 use Rattle.parameters.specs.declared.fields.Extension.{Extension}
+use Rattle.parameters.specs.declared.reading.Reading.{Reading}
 use Rattle.parameters.specs.Accepted.{accepted, BasicBytes, StatusBytes, ParameterBytes}
 
 -- ---- from the verdict, and back to it
@@ -67,6 +68,21 @@ module _ (s : List ℕ) where
   unfolding extension_verdict
   fine_judged mode.Dpv0 g = (g.long, fine_basic (extension_in s mode.Dpv0) g refl)
   fine_judged mode.Dpv1 g = (g.1.long, fine_basic (extension_in s mode.Dpv1) g.0 (fine_status g.1))
+
+  module _ (m : Mode) where
+    abbrev If : Reading → Type 0
+    If r = accepted r ≡ true → ParameterBytes s m
+
+    -- Accepted in a version exactly when the length is in range and each bit and byte is as that version asks.
+    pub parameters_accepted : accepted (read_of s m) ≡ true ↔ ParameterBytes s m
+    unfolding read_of
+    parameters_accepted = (
+      by_pick If (ltb (length s) (fixed_length m)) (λ _ a. absurd (never a))
+          (λ long.
+          by_verdict If (verdict_of (fields_in s (extension_in s m)) (length s)) (λ k a. absurd (never a))
+          (λ good _. judged_fine m (ltb-false (length s) (fixed_length m) long) good)),
+      λ g. let f = fine_judged m g in simp (le-ltb _ _ f.0, f.1),
+    )
 
 -- The shortest parameters of each version, and the longest.
 pub parameters_computed :

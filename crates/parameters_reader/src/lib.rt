@@ -1,5 +1,6 @@
 // Reading parameters: each byte that can be refused has its own return, in document 01's order.
 #![tactic(auto)]
+
 ghost use Rattle.std.specs.Prelude.{◌≡◌, ◌≤◌, length};
 ghost use Rattle.parameters.specs.Reading.{answer_in, extension_of, read_of};
 

@@ -3,6 +3,7 @@ ghost use Rattle.std.specs.Prelude.{◌<◌};
 
 use crate::text::{decimal, line_end, text};
 use configuration::Reading;
+use std::io;
 
 // A module's bytes on one side: where they begin, and where the next module's do.
 #[derive(Drop)]
@@ -11,30 +12,30 @@ struct Span {
     end: u16,
 }
 
-fn total_line(modules: usize, inputs: usize, outputs: usize) {
-    decimal(modules);
-    text(b" modules, ");
-    decimal(inputs);
-    text(b" in, ");
-    decimal(outputs);
-    text(b" out\n");
+fn total_line(rt: &impl Print, modules: usize, inputs: usize, outputs: usize) -> io::Result<()> {
+    decimal(rt, modules)?;
+    text(rt, b" modules, ")?;
+    decimal(rt, inputs)?;
+    text(rt, b" in, ")?;
+    decimal(rt, outputs)?;
+    text(rt, b" out\n")
 }
 
 // Offsets never fall, so nothing wraps.
-fn side_words(span: Span, name: &[u8]) {
-    let count = std::num::wrapping_sub_u16(span.end, span.begin);
-    text(b", ");
-    decimal(count as usize);
-    text(name);
-    decimal(span.begin as usize);
+fn side_words(rt: &impl Print, span: Span, name: &[u8]) -> io::Result<()> {
+    let count = span.end.wrapping_sub(span.begin);
+    text(rt, b", ")?;
+    decimal(rt, count as usize)?;
+    text(rt, name)?;
+    decimal(rt, span.begin as usize)
 }
 
-fn module_line(number: usize, inputs: Span, outputs: Span) {
-    text(b"module ");
-    decimal(number);
-    side_words(inputs, b" in at ");
-    side_words(outputs, b" out at ");
-    line_end();
+fn module_line(rt: &impl Print, number: usize, inputs: Span, outputs: Span) -> io::Result<()> {
+    text(rt, b"module ")?;
+    decimal(rt, number)?;
+    side_words(rt, inputs, b" in at ")?;
+    side_words(rt, outputs, b" out at ")?;
+    line_end(rt)
 }
 
 fn span_at(offsets: &[u16; 256], i: usize) -> Span
@@ -48,26 +49,32 @@ fn span_at(offsets: &[u16; 256], i: usize) -> Span
 
 // The library stores the offsets of the modules, fewer than a telegram has bytes. Behind them the
 // lists keep the totals, where the last module ends.
-fn module_lines(bytes: &[u8], modules: usize, inputs: u16, outputs: u16) {
+fn module_lines(
+    rt: &impl Print,
+    bytes: &[u8],
+    modules: usize,
+    inputs: u16,
+    outputs: u16,
+) -> io::Result<()> {
     let mut input_offsets = [inputs; 256];
     let mut output_offsets = [outputs; 256];
     configuration_reader::offsets(bytes, &mut input_offsets, &mut output_offsets);
-    let mut i = 0;
-    while i < 255 {
+    for i in 0..255 {
         if i == modules {
-            return;
+            return Ok(());
         }
         module_line(
+            rt,
             i + 1,
             span_at(&input_offsets, i),
             span_at(&output_offsets, i),
-        );
-        i += 1;
+        )?;
     }
+    Ok(())
 }
 
 // Nothing where the bytes are no configuration.
-pub(crate) fn configuration_lines(bytes: &[u8]) {
+pub(crate) fn configuration_lines(rt: &impl Print, bytes: &[u8]) -> io::Result<()> {
     let reading = configuration_reader::read(bytes);
     match reading {
         Reading::Configuration {
@@ -75,9 +82,9 @@ pub(crate) fn configuration_lines(bytes: &[u8]) {
             inputs,
             outputs,
         } => {
-            total_line(modules, inputs, outputs);
-            module_lines(bytes, modules, inputs as u16, outputs as u16);
+            total_line(rt, modules, inputs, outputs)?;
+            module_lines(rt, bytes, modules, inputs as u16, outputs as u16)
         }
-        Reading::Refused(_) => {}
+        Reading::Refused(_) => Ok(()),
     }
 }

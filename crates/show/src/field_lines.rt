@@ -2,31 +2,33 @@
 ghost use Rattle.std.specs.Prelude.{◌<◌};
 
 use crate::text::{decimal, hex_bytes, hex16, line_end, text};
+use std::io;
 
-pub(crate) fn count_line(name: &[u8], count: usize) {
-    text(name);
-    text(b" ");
-    decimal(count);
-    line_end();
+pub(crate) fn count_line(rt: &impl Print, name: &[u8], count: usize) -> io::Result<()> {
+    text(rt, name)?;
+    text(rt, b" ")?;
+    decimal(rt, count)?;
+    line_end(rt)
 }
 
-pub(crate) fn number_line(name: &[u8], number: u8) {
-    count_line(name, number as usize);
+pub(crate) fn number_line(rt: &impl Print, name: &[u8], number: u8) -> io::Result<()> {
+    count_line(rt, name, number as usize)
 }
 
 // Nothing where there are no bytes.
-pub(crate) fn bytes_line(name: &[u8], bytes: &[u8]) {
+pub(crate) fn bytes_line(rt: &impl Print, name: &[u8], bytes: &[u8]) -> io::Result<()> {
     if 0 < bytes.len() {
-        text(name);
-        hex_bytes(bytes);
-        line_end();
+        text(rt, name)?;
+        hex_bytes(rt, bytes)?;
+        line_end(rt)?;
     }
+    Ok(())
 }
 
-pub(crate) fn ident_line(ident: u16) {
-    text(b"ident ");
-    hex16(ident);
-    line_end();
+pub(crate) fn ident_line(rt: &impl Print, ident: u16) -> io::Result<()> {
+    text(rt, b"ident ")?;
+    hex16(rt, ident)?;
+    line_end(rt)
 }
 
 fn is_set(byte: u8, bit: u8) -> bool
@@ -36,36 +38,35 @@ fn is_set(byte: u8, bit: u8) -> bool
 }
 
 // Nothing where the bit is not set.
-pub(crate) fn flag_line(byte: u8, bit: u8, name: &[u8])
+pub(crate) fn flag_line(rt: &impl Print, byte: u8, bit: u8, name: &[u8]) -> io::Result<()>
     requires { bit < 8 }
 {
     if is_set(byte, bit) {
-        text(b"flag ");
-        text(name);
-        line_end();
+        text(rt, b"flag ")?;
+        text(rt, name)?;
+        line_end(rt)?;
     }
+    Ok(())
 }
 
 // Bit 0 is group 1.
-fn group(groups: u8, bit: u8)
+fn group(rt: &impl Print, groups: u8, bit: u8) -> io::Result<()>
     requires { bit < 8 }
 {
     if is_set(groups, bit) {
-        text(b" ");
-        decimal(bit as usize + 1);
+        text(rt, b" ")?;
+        decimal(rt, bit as usize + 1)?;
     }
+    Ok(())
 }
 
-pub(crate) fn group_line(groups: u8) {
+pub(crate) fn group_line(rt: &impl Print, groups: u8) -> io::Result<()> {
     if groups == 0 {
-        text(b"no group\n");
-        return;
+        return text(rt, b"no group\n");
     }
-    text(b"groups");
-    let mut bit = 0;
-    while bit < 8 {
-        group(groups, bit);
-        bit += 1;
+    text(rt, b"groups")?;
+    for bit in 0..8 {
+        group(rt, groups, bit)?;
     }
-    line_end();
+    line_end(rt)
 }

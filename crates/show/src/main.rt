@@ -2,6 +2,7 @@
 // to standard output, as docs/SHOW.md has them. What the bytes mean is the library's; here is only how
 // it is said.
 #![tactic(auto)]
+
 mod configuration_lines;
 mod control_lines;
 mod diagnosis_lines;
@@ -13,16 +14,19 @@ mod service_lines;
 mod telegram_line;
 mod text;
 
+ghost use Rattle.std.specs.Prelude.{◌≤◌, length, IfOk};
+
 use crate::service_lines::service_lines;
 use crate::telegram_line::{confirmation_line, refused_line, telegram_line, token_line};
 use fdl::Reading;
-use libc::STDIN_FILENO;
+use std::io;
+use std::io::Read;
 
 // The lines for these bytes.
-fn lines(bytes: &[u8]) {
+fn lines(rt: &impl Print, bytes: &[u8]) -> io::Result<()> {
     match fdl_reader::read(bytes) {
-        Reading::Confirmation => confirmation_line(),
-        Reading::Token { da, sa } => token_line(da, sa),
+        Reading::Confirmation => confirmation_line(rt),
+        Reading::Token { da, sa } => token_line(rt, da, sa),
         Reading::Telegram {
             format,
             header,
@@ -30,17 +34,32 @@ fn lines(bytes: &[u8]) {
             len,
         } => {
             let user = octets::part(bytes, start, len);
-            telegram_line(format, header, user);
-            service_lines(bytes, user);
+            telegram_line(rt, format, header, user)?;
+            service_lines(rt, bytes, user)
         }
-        Reading::Refused(refusal) => refused_line(refusal.number),
+        Reading::Refused(refusal) => refused_line(rt, refusal.number),
     }
+}
+
+// Reads until buf is full or the input ends, and answers how many bytes it put in front.
+fn read_full(input: &mut impl Read, buf: &mut [u8]) -> io::Result<usize>
+    ensures { IfOk result (λ n. n ≤ length buf.new) }
+{
+    let mut done = 0;
+    while done < buf.len() {
+        let n = input.read(&mut buf[done..])?;
+        if n == 0 {
+            break;
+        }
+        done += n;
+    }
+    Ok(done)
 }
 
 // A reading depends on the first 256 bytes alone (theorem first-256-bytes of the crate fdl), so no
 // more are read, however many come.
-fn main() {
+fn main(rt: HostRuntime) -> io::Result<()> {
     let mut buffer = [0u8; 256];
-    let n = io::read_full(STDIN_FILENO, &mut buffer);
-    lines(&buffer[..n]);
+    let n = read_full(&mut rt.stdin(), &mut buffer)?;
+    lines(&rt, &buffer[..n])
 }

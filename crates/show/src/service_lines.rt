@@ -9,82 +9,90 @@ use crate::text::text;
 use content::Content;
 use octets::Mode;
 use service::{Reading, Way};
+use std::io;
 
-fn service_name(content: Content) {
+fn service_name(rt: &impl Print, content: Content) -> io::Result<()> {
     match content {
-        Content::DataExchange => text(b"Data_Exchange"),
-        Content::Dpv1Call(_) => text(b"DPV1"),
-        Content::Dpv1Answer(_) => text(b"DPV1"),
-        Content::ExtUserPrm => text(b"Ext_User_Prm"),
-        Content::SetSlaveAdr(_) => text(b"Set_Slave_Adr"),
-        Content::RdInp => text(b"Rd_Inp"),
-        Content::RdOutp => text(b"Rd_Outp"),
-        Content::GlobalControl(_) => text(b"Global_Control"),
-        Content::GetCfg => text(b"Get_Cfg"),
-        Content::SlaveDiagCall => text(b"Slave_Diag"),
-        Content::SlaveDiag(_) => text(b"Slave_Diag"),
-        Content::SetPrm(_) => text(b"Set_Prm"),
-        Content::ChkCfg => text(b"Chk_Cfg"),
+        Content::DataExchange => text(rt, b"Data_Exchange"),
+        Content::Dpv1Call(_) => text(rt, b"DPV1"),
+        Content::Dpv1Answer(_) => text(rt, b"DPV1"),
+        Content::ExtUserPrm => text(rt, b"Ext_User_Prm"),
+        Content::SetSlaveAdr(_) => text(rt, b"Set_Slave_Adr"),
+        Content::RdInp => text(rt, b"Rd_Inp"),
+        Content::RdOutp => text(rt, b"Rd_Outp"),
+        Content::GlobalControl(_) => text(rt, b"Global_Control"),
+        Content::GetCfg => text(rt, b"Get_Cfg"),
+        Content::SlaveDiagCall => text(rt, b"Slave_Diag"),
+        Content::SlaveDiag(_) => text(rt, b"Slave_Diag"),
+        Content::SetPrm(_) => text(rt, b"Set_Prm"),
+        Content::ChkCfg => text(rt, b"Chk_Cfg"),
     }
 }
 
-fn service_line(content: Content, way: Way) {
-    text(b"service ");
-    service_name(content);
+fn service_line(rt: &impl Print, content: Content, way: Way) -> io::Result<()> {
+    text(rt, b"service ")?;
+    service_name(rt, content)?;
     match way {
-        Way::Call => text(b" call\n"),
-        Way::Answer => text(b" answer\n"),
+        Way::Call => text(rt, b" call\n"),
+        Way::Answer => text(rt, b" answer\n"),
     }
 }
 
-fn data_length(data: &[u8]) {
-    count_line(b"data length", data.len());
+fn data_length(rt: &impl Print, data: &[u8]) -> io::Result<()> {
+    count_line(rt, b"data length", data.len())
 }
 
 // Process data that are read back; the call has none.
-fn read_back(way: Way, data: &[u8]) {
+fn read_back(rt: &impl Print, way: Way, data: &[u8]) -> io::Result<()> {
     match way {
-        Way::Call => {}
-        Way::Answer => data_length(data),
+        Way::Call => Ok(()),
+        Way::Answer => data_length(rt, data),
     }
 }
 
 // The configuration that is read back; the call has none.
-fn configuration_back(way: Way, data: &[u8]) {
+fn configuration_back(rt: &impl Print, way: Way, data: &[u8]) -> io::Result<()> {
     match way {
-        Way::Call => {}
-        Way::Answer => configuration_lines(data),
+        Way::Call => Ok(()),
+        Way::Answer => configuration_lines(rt, data),
     }
 }
 
 // What the fields leave of the user data is the part.
-fn content_lines(content: Content, way: Way, user: &[u8], part: &[u8]) {
+fn content_lines(
+    rt: &impl Print,
+    content: Content,
+    way: Way,
+    user: &[u8],
+    part: &[u8],
+) -> io::Result<()> {
     match content {
-        Content::DataExchange => data_length(part),
-        Content::Dpv1Call(call) => call_lines(call, part),
-        Content::Dpv1Answer(answer) => answer_lines(answer, part),
-        Content::ExtUserPrm => data_length(part),
-        Content::SetSlaveAdr(change) => address_lines(change),
-        Content::RdInp => read_back(way, part),
-        Content::RdOutp => read_back(way, part),
-        Content::GlobalControl(command) => command_lines(command),
-        Content::GetCfg => configuration_back(way, part),
-        Content::SlaveDiagCall => {}
-        Content::SlaveDiag(header) => diagnosis_lines(header, user),
-        Content::SetPrm(parameters) => parameter_lines(parameters, part),
-        Content::ChkCfg => configuration_lines(part),
+        Content::DataExchange => data_length(rt, part),
+        Content::Dpv1Call(call) => call_lines(rt, call, part),
+        Content::Dpv1Answer(answer) => answer_lines(rt, answer, part),
+        Content::ExtUserPrm => data_length(rt, part),
+        Content::SetSlaveAdr(change) => address_lines(rt, change),
+        Content::RdInp => read_back(rt, way, part),
+        Content::RdOutp => read_back(rt, way, part),
+        Content::GlobalControl(command) => command_lines(rt, command),
+        Content::GetCfg => configuration_back(rt, way, part),
+        Content::SlaveDiagCall => Ok(()),
+        Content::SlaveDiag(header) => diagnosis_lines(rt, header, user),
+        Content::SetPrm(parameters) => parameter_lines(rt, parameters, part),
+        Content::ChkCfg => configuration_lines(rt, part),
     }
 }
 
 // Nothing for 10: the telegram carries no service.
-fn refused_line(number: u8) {
+fn refused_line(rt: &impl Print, number: u8) -> io::Result<()> {
     if number != 10 {
-        number_line(b"service refused", number);
+        number_line(rt, b"service refused", number)?;
     }
+    Ok(())
 }
 
 // The lines of the service that a telegram with these user data carries. Parameters are read as DPV1.
-pub(crate) fn service_lines(bytes: &[u8], user: &[u8]) {
+pub(crate) fn service_lines(rt: &impl Print, bytes: &[u8], user: &[u8]) -> io::Result<()> {
     match service_reader::read(bytes, Mode::Dpv1) {
         Reading::Service {
             format: _,
@@ -94,9 +102,9 @@ pub(crate) fn service_lines(bytes: &[u8], user: &[u8]) {
             start,
             len,
         } => {
-            service_line(content, way);
-            content_lines(content, way, user, octets::part(bytes, start, len));
+            service_line(rt, content, way)?;
+            content_lines(rt, content, way, user, octets::part(bytes, start, len))
         }
-        Reading::Refused(refusal) => refused_line(refusal.number),
+        Reading::Refused(refusal) => refused_line(rt, refusal.number),
     }
 }

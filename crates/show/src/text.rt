@@ -1,21 +1,21 @@
 // Words, numbers and bytes on standard output.
-use libc::STDOUT_FILENO;
+use std::io;
 
-pub(crate) fn text(words: &[u8]) {
-    io::write_all(STDOUT_FILENO, words);
+pub(crate) fn text(rt: &impl Print, words: &[u8]) -> io::Result<()> {
+    rt.write_all(words)
 }
 
-pub(crate) fn line_end() {
-    text(b"\n");
+pub(crate) fn line_end(rt: &impl Print) -> io::Result<()> {
+    text(rt, b"\n")
 }
 
-pub(crate) fn decimal(number: usize) {
-    io::print_decimal(STDOUT_FILENO, number as u64);
+pub(crate) fn decimal(rt: &impl Print, number: usize) -> io::Result<()> {
+    print!(rt; "{number}")
 }
 
 // A number of one byte.
-pub(crate) fn decimal8(number: u8) {
-    decimal(number as usize);
+pub(crate) fn decimal8(rt: &impl Print, number: u8) -> io::Result<()> {
+    decimal(rt, number as usize)
 }
 
 // The capital digit of the low four bits.
@@ -29,27 +29,29 @@ fn hex_digit(number: u8) -> u8 {
 }
 
 // A space and the byte's two digits.
-pub(crate) fn hex(byte: u8) {
-    text(&[b' ', hex_digit(byte / 16), hex_digit(byte)]);
+pub(crate) fn hex(rt: &impl Print, byte: u8) -> io::Result<()> {
+    text(rt, &[b' ', hex_digit(byte / 16), hex_digit(byte)])
 }
 
 // Each byte behind a space.
-pub(crate) fn hex_bytes(bytes: &[u8]) {
-    let mut i = 0;
-    while i < bytes.len() {
-        hex(bytes[i]);
-        i += 1;
+pub(crate) fn hex_bytes(rt: &impl Print, bytes: &[u8]) -> io::Result<()> {
+    for byte in bytes {
+        hex(rt, *byte)?;
     }
+    Ok(())
 }
 
 // A number's four digits, with no space.
-pub(crate) fn hex16(number: u16) {
+pub(crate) fn hex16(rt: &impl Print, number: u16) -> io::Result<()> {
     let high = (number / 256) as u8;
     let low = (number % 256) as u8;
-    text(&[
-        hex_digit(high / 16),
-        hex_digit(high),
-        hex_digit(low / 16),
-        hex_digit(low),
-    ]);
+    text(
+        rt,
+        &[
+            hex_digit(high / 16),
+            hex_digit(high),
+            hex_digit(low / 16),
+            hex_digit(low),
+        ],
+    )
 }

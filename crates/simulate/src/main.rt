@@ -1,17 +1,21 @@
 // One download over a line that loses what it is told to lose, sending by sending (docs/SIMULATE.md). What both
 // ends do is the library's; here is only how it is said.
 #![tactic(auto)]
+
 mod ending_lines;
 mod input;
 mod sending_line;
 mod text;
 
+ghost use Rattle.std.specs.Prelude.{◌≤◌, length, IfOk};
+
 use crate::ending_lines::{ending_lines, refused_line};
 use crate::input::{BOOK_START, Layout, laid_out};
 use crate::sending_line::sending_line;
-use libc::STDIN_FILENO;
 use octets::part;
 use protocol::{Action, Check, Controller, Pending, Printer, Reaction, Settings};
+use std::io;
+use std::io::Read;
 
 // The most sendings of a download: the opening, and 16 templates with a write and 31 polls, each sent 8 times.
 const SENDINGS_MOST: u16 = 4097;
@@ -42,14 +46,14 @@ fn entry_after(sent: u16, line: &[u8]) -> u8 {
 }
 
 // The lines behind the last sending. A download never ends otherwise: what could be refused was judged before.
-fn ended(action: Action, sent: u16, lengths: &[u8; 16]) {
+fn ended(rt: &impl Print, action: Action, sent: u16, lengths: &[u8; 16]) -> io::Result<()> {
     match action {
         Action::Send {
             controller: _,
             request: _,
-        } => {}
-        Action::End(ending) => ending_lines(ending, sent, lengths),
-        Action::Refused(number) => refused_line(number),
+        } => Ok(()),
+        Action::End(ending) => ending_lines(rt, ending, sent, lengths),
+        Action::Refused(number) => refused_line(rt, number),
     }
 }
 
@@ -62,6 +66,7 @@ struct Stage {
 
 // One sending of the request of `count` bytes, with its line, and what the controller does then.
 fn turn(
+    rt: &impl Print,
     settings: Settings,
     book: &[u8],
     entry: u8,
@@ -74,32 +79,33 @@ fn turn(
     bodies: &mut [u8; 3200],
     reply: &mut [u8],
     request: &mut [u8],
-) -> Stage {
+) -> io::Result<Stage> {
     let sent = part(request, 0, count as usize);
     let reaction = sending::send(
         entry, sent, printer, not_yet, &DIAGNOSIS, lengths, bodies, reply,
     );
     match reaction {
-        Reaction::Refused(number) => Stage {
+        Reaction::Refused(number) => Ok(Stage {
             action: Action::Refused(number),
             printer,
-        },
+        }),
         Reaction::Heard {
             printer: heard,
             reply: back,
         } => {
             let came = part(reply, 0, back as usize);
-            sending_line(number, sent, entry, settings, came);
-            Stage {
+            sending_line(rt, number, sent, entry, settings, came)?;
+            Ok(Stage {
                 action: controller::step(settings, book, controller, came, request),
                 printer: heard,
-            }
+            })
         }
     }
 }
 
 // Every sending, until the controller ends the download.
 fn sendings(
+    rt: &impl Print,
     settings: Settings,
     book: &[u8],
     line: &[u8],
@@ -109,7 +115,7 @@ fn sendings(
     bodies: &mut [u8; 3200],
     reply: &mut [u8],
     request: &mut [u8],
-) {
+) -> io::Result<()> {
     let mut sent: u16 = 0;
     let mut now = Stage {
         action: controller::step(settings, book, Controller::Fresh, b"", request),
@@ -128,16 +134,23 @@ fn sendings(
         let entry = entry_after(sent, line);
         sent += 1;
         now = turn(
-            settings, book, entry, not_yet, sent, controller, count, printer, lengths, bodies,
+            rt, settings, book, entry, not_yet, sent, controller, count, printer, lengths, bodies,
             reply, request,
-        );
+        )?;
     }
     let action = now.action;
-    ended(action, sent, lengths);
+    ended(rt, action, sent, lengths)
 }
 
 // Runs a download to a fresh printer whose slots are all empty, and prints it.
-fn run(settings: Settings, boarding: u8, book: &[u8], line: &[u8], not_yet: &[u8]) {
+fn run(
+    rt: &impl Print,
+    settings: Settings,
+    boarding: u8,
+    book: &[u8],
+    line: &[u8],
+    not_yet: &[u8],
+) -> io::Result<()> {
     let mut lengths = [0u8; 16];
     let mut bodies = [0u8; 3200];
     let mut reply = [0u8; 255];
@@ -147,8 +160,9 @@ fn run(settings: Settings, boarding: u8, book: &[u8], line: &[u8], not_yet: &[u8
         settings, book, line, &DIAGNOSIS, printer, &lengths, &bodies, &reply, &request,
     );
     match check {
-        Check::Refused(number) => refused_line(number),
+        Check::Refused(number) => refused_line(rt, number),
         Check::Fine => sendings(
+            rt,
             settings,
             book,
             line,
@@ -162,26 +176,40 @@ fn run(settings: Settings, boarding: u8, book: &[u8], line: &[u8], not_yet: &[u8
     }
 }
 
-fn simulate(input: &[u8]) {
+fn simulate(rt: &impl Print, input: &[u8]) -> io::Result<()> {
     let found = laid_out(input);
     match found {
-        Layout::Cut => refused_line(1),
+        Layout::Cut => refused_line(rt, 1),
         Layout::Is(parts) => {
             if 1 < parts.boarding {
-                refused_line(12);
-                return;
+                return refused_line(rt, 12);
             }
             let settings = parts.settings;
             let book = part(input, BOOK_START, parts.book_len);
             let line = part(input, parts.line_start, parts.line_len);
             let rest = part(input, parts.rest_start, parts.rest_len);
-            run(settings, parts.boarding, book, line, rest);
+            run(rt, settings, parts.boarding, book, line, rest)
         }
     }
 }
 
-fn main() {
+// Reads until buf is full or the input ends, and answers how many bytes it put in front.
+fn read_full(input: &mut impl Read, buf: &mut [u8]) -> io::Result<usize>
+    ensures { IfOk result (λ n. n ≤ length buf.new) }
+{
+    let mut done = 0;
+    while done < buf.len() {
+        let n = input.read(&mut buf[done..])?;
+        if n == 0 {
+            break;
+        }
+        done += n;
+    }
+    Ok(done)
+}
+
+fn main(rt: HostRuntime) -> io::Result<()> {
     let mut buffer = [0u8; 8192];
-    let n = io::read_full(STDIN_FILENO, &mut buffer);
-    simulate(&buffer[..n]);
+    let n = read_full(&mut rt.stdin(), &mut buffer)?;
+    simulate(&rt, &buffer[..n])
 }

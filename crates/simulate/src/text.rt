@@ -1,17 +1,17 @@
 // Words, numbers and bytes on standard output.
-use libc::STDOUT_FILENO;
+use std::io;
 
-pub(crate) fn text(words: &[u8]) {
-    io::write_all(STDOUT_FILENO, words);
+pub(crate) fn text(rt: &impl Print, words: &[u8]) -> io::Result<()> {
+    rt.write_all(words)
 }
 
-pub(crate) fn decimal(number: u16) {
-    io::print_decimal(STDOUT_FILENO, number as u64);
+pub(crate) fn decimal(rt: &impl Print, number: u16) -> io::Result<()> {
+    print!(rt; "{number}")
 }
 
 // A number of one byte.
-pub(crate) fn decimal8(number: u8) {
-    decimal(number as u16);
+pub(crate) fn decimal8(rt: &impl Print, number: u8) -> io::Result<()> {
+    decimal(rt, number as u16)
 }
 
 // The capital digit of the low four bits.
@@ -25,6 +25,6 @@ fn hex_digit(number: u8) -> u8 {
 }
 
 // A space and the byte's two digits.
-pub(crate) fn hex(byte: u8) {
-    text(&[b' ', hex_digit(byte / 16), hex_digit(byte)]);
+pub(crate) fn hex(rt: &impl Print, byte: u8) -> io::Result<()> {
+    text(rt, &[b' ', hex_digit(byte / 16), hex_digit(byte)])
 }

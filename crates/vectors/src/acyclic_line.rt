@@ -4,81 +4,82 @@ use crate::answer::malformed;
 use crate::outcome::{again, behind, refused, stored};
 use crate::text::{byte_field, place, text};
 use acyclic::{Answer, AnswerReading, Call, CallReading, Function};
+use std::io;
 
-fn two(first: u8, second: u8) {
-    byte_field(first);
-    byte_field(second);
+fn two(rt: &impl Print, first: u8, second: u8) -> io::Result<()> {
+    byte_field(rt, first)?;
+    byte_field(rt, second)
 }
 
-fn three(first: u8, second: u8, third: u8) {
-    two(first, second);
-    byte_field(third);
+fn three(rt: &impl Print, first: u8, second: u8, third: u8) -> io::Result<()> {
+    two(rt, first, second)?;
+    byte_field(rt, third)
 }
 
-pub(crate) fn call_words(call: Call) {
+pub(crate) fn call_words(rt: &impl Print, call: Call) -> io::Result<()> {
     match call {
-        Call::Poll => text(b" poll"),
+        Call::Poll => text(rt, b" poll"),
         Call::Read {
             slot,
             index,
             length,
         } => {
-            text(b" read");
-            three(slot, index, length);
+            text(rt, b" read")?;
+            three(rt, slot, index, length)
         }
         Call::Write { slot, index } => {
-            text(b" write");
-            two(slot, index);
+            text(rt, b" write")?;
+            two(rt, slot, index)
         }
         Call::AlarmAck {
             slot,
             alarm,
             specifier,
         } => {
-            text(b" alarm");
-            three(slot, alarm, specifier);
+            text(rt, b" alarm")?;
+            three(rt, slot, alarm, specifier)
         }
-        Call::Idle => text(b" idle"),
+        Call::Idle => text(rt, b" idle"),
         Call::Transport { slot, index } => {
-            text(b" transport");
-            two(slot, index);
+            text(rt, b" transport")?;
+            two(rt, slot, index)
         }
     }
 }
 
 // Where the data stand, in a call that can have them.
-fn call_place(call: Call, start: usize, len: usize) {
+fn call_place(rt: &impl Print, call: Call, start: usize, len: usize) -> io::Result<()> {
     match call {
-        Call::Poll => {}
+        Call::Poll => Ok(()),
         Call::Read {
             slot: _,
             index: _,
             length: _,
-        } => {}
-        Call::Write { slot: _, index: _ } => place(start, len),
+        } => Ok(()),
+        Call::Write { slot: _, index: _ } => place(rt, start, len),
         Call::AlarmAck {
             slot: _,
             alarm: _,
             specifier: _,
-        } => {}
-        Call::Idle => {}
-        Call::Transport { slot: _, index: _ } => place(start, len),
+        } => Ok(()),
+        Call::Idle => Ok(()),
+        Call::Transport { slot: _, index: _ } => place(rt, start, len),
     }
 }
 
-pub(crate) fn call_line(bytes: &[u8], out: &mut [u8]) {
+pub(crate) fn call_line(rt: &impl Print, bytes: &[u8], out: &mut [u8]) -> io::Result<()> {
     match acyclic_reader::read_call(bytes) {
         CallReading::Refused(refusal) => {
-            refused(refusal);
-            text(b"\n");
+            refused(rt, refusal)?;
+            text(rt, b"\n")
         }
         CallReading::Call { call, start, len } => {
-            text(b"0");
-            call_words(call);
-            call_place(call, start, len);
+            text(rt, b"0")?;
+            call_words(rt, call)?;
+            call_place(rt, call, start, len)?;
             let written = acyclic_writer::write_call(call, octets::part(bytes, start, len), out);
-            again(written, out);
-            text(b"\n");
+            again(rt, written, out)?;
+            text(rt, b"\n")
         }
     }
 }
@@ -92,32 +93,32 @@ fn number_of(function: Function) -> u8 {
     }
 }
 
-pub(crate) fn answer_words(answer: Answer) {
+pub(crate) fn answer_words(rt: &impl Print, answer: Answer) -> io::Result<()> {
     match answer {
         Answer::Read { slot, index } => {
-            text(b" read");
-            two(slot, index);
+            text(rt, b" read")?;
+            two(rt, slot, index)
         }
         Answer::Write {
             slot,
             index,
             length,
         } => {
-            text(b" write");
-            three(slot, index, length);
+            text(rt, b" write")?;
+            three(rt, slot, index, length)
         }
         Answer::AlarmAck {
             slot,
             alarm,
             specifier,
         } => {
-            text(b" alarm");
-            three(slot, alarm, specifier);
+            text(rt, b" alarm")?;
+            three(rt, slot, alarm, specifier)
         }
-        Answer::Idle => text(b" idle"),
+        Answer::Idle => text(rt, b" idle"),
         Answer::Transport { slot, index } => {
-            text(b" transport");
-            two(slot, index);
+            text(rt, b" transport")?;
+            two(rt, slot, index)
         }
         Answer::Negative {
             function,
@@ -125,109 +126,112 @@ pub(crate) fn answer_words(answer: Answer) {
             code1,
             code2,
         } => {
-            text(b" negative");
-            byte_field(number_of(function));
-            three(decode, code1, code2);
+            text(rt, b" negative")?;
+            byte_field(rt, number_of(function))?;
+            three(rt, decode, code1, code2)
         }
     }
 }
 
 // Where the data stand, in an answer that can have them.
-fn answer_place(answer: Answer, start: usize, len: usize) {
+fn answer_place(rt: &impl Print, answer: Answer, start: usize, len: usize) -> io::Result<()> {
     match answer {
-        Answer::Read { slot: _, index: _ } => place(start, len),
+        Answer::Read { slot: _, index: _ } => place(rt, start, len),
         Answer::Write {
             slot: _,
             index: _,
             length: _,
-        } => {}
+        } => Ok(()),
         Answer::AlarmAck {
             slot: _,
             alarm: _,
             specifier: _,
-        } => {}
-        Answer::Idle => {}
-        Answer::Transport { slot: _, index: _ } => place(start, len),
+        } => Ok(()),
+        Answer::Idle => Ok(()),
+        Answer::Transport { slot: _, index: _ } => place(rt, start, len),
         Answer::Negative {
             function: _,
             decode: _,
             code1: _,
             code2: _,
-        } => {}
+        } => Ok(()),
     }
 }
 
-pub(crate) fn answer_line(bytes: &[u8], out: &mut [u8]) {
+pub(crate) fn answer_line(rt: &impl Print, bytes: &[u8], out: &mut [u8]) -> io::Result<()> {
     match acyclic_reader::read_answer(bytes) {
         AnswerReading::Refused(refusal) => {
-            refused(refusal);
-            text(b"\n");
+            refused(rt, refusal)?;
+            text(rt, b"\n")
         }
         AnswerReading::Answer { answer, start, len } => {
-            text(b"0");
-            answer_words(answer);
-            answer_place(answer, start, len);
+            text(rt, b"0")?;
+            answer_words(rt, answer)?;
+            answer_place(rt, answer, start, len)?;
             let written = acyclic_writer::write_answer(
                 answer,
                 octets::part(bytes, start, len),
                 out,
             );
-            again(written, out);
-            text(b"\n");
+            again(rt, written, out)?;
+            text(rt, b"\n")
         }
     }
 }
 
-fn written_call(call: Call, data: &[u8], out: &mut [u8]) {
+fn written_call(rt: &impl Print, call: Call, data: &[u8], out: &mut [u8]) -> io::Result<()> {
     let written = acyclic_writer::write_call(call, data, out);
-    stored(written, out);
+    stored(rt, written, out)
 }
 
 // A number for the kind of call, three bytes for its fields, and its data.
-pub(crate) fn call_fields(fields: &[u8], out: &mut [u8]) {
+pub(crate) fn call_fields(rt: &impl Print, fields: &[u8], out: &mut [u8]) -> io::Result<()> {
     if fields.len() < 4 {
-        malformed();
-        return;
+        return malformed(rt);
     }
     let slot = fields[1];
     let index = fields[2];
     let last = fields[3];
     let data = behind(fields, 4);
     match fields[0] {
-        0 => written_call(Call::Poll, data, out),
+        0 => written_call(rt, Call::Poll, data, out),
         1 => {
             let call = Call::Read {
                 slot,
                 index,
                 length: last,
             };
-            written_call(call, data, out)
+            written_call(rt, call, data, out)
         }
-        2 => written_call(Call::Write { slot, index }, data, out),
+        2 => written_call(rt, Call::Write { slot, index }, data, out),
         3 => {
             let call = Call::AlarmAck {
                 slot,
                 alarm: index,
                 specifier: last,
             };
-            written_call(call, data, out)
+            written_call(rt, call, data, out)
         }
-        4 => written_call(Call::Idle, data, out),
-        5 => written_call(Call::Transport { slot, index }, data, out),
-        _ => malformed(),
+        4 => written_call(rt, Call::Idle, data, out),
+        5 => written_call(rt, Call::Transport { slot, index }, data, out),
+        _ => malformed(rt),
     }
 }
 
-fn written_answer(answer: Answer, data: &[u8], out: &mut [u8]) {
+fn written_answer(rt: &impl Print, answer: Answer, data: &[u8], out: &mut [u8]) -> io::Result<()> {
     let written = acyclic_writer::write_answer(answer, data, out);
-    stored(written, out);
+    stored(rt, written, out)
 }
 
 // The fields of a negative answer.
-fn negative_fields(function: Function, fields: &[u8], out: &mut [u8]) {
+fn negative_fields(
+    rt: &impl Print,
+    function: Function,
+    fields: &[u8],
+    out: &mut [u8],
+) -> io::Result<()> {
     if fields.len() < 4 {
-        malformed();
-        return;
+        return malformed(rt);
     }
     let answer = Answer::Negative {
         function,
@@ -235,54 +239,51 @@ fn negative_fields(function: Function, fields: &[u8], out: &mut [u8]) {
         code1: fields[2],
         code2: fields[3],
     };
-    written_answer(answer, behind(fields, 4), out);
+    written_answer(rt, answer, behind(fields, 4), out)
 }
 
-fn write_fields(fields: &[u8], out: &mut [u8]) {
+fn write_fields(rt: &impl Print, fields: &[u8], out: &mut [u8]) -> io::Result<()> {
     if fields.len() < 4 {
-        malformed();
-        return;
+        return malformed(rt);
     }
     let answer = Answer::Write {
         slot: fields[1],
         index: fields[2],
         length: fields[3],
     };
-    written_answer(answer, behind(fields, 4), out);
+    written_answer(rt, answer, behind(fields, 4), out)
 }
 
-fn alarm_fields(fields: &[u8], out: &mut [u8]) {
+fn alarm_fields(rt: &impl Print, fields: &[u8], out: &mut [u8]) -> io::Result<()> {
     if fields.len() < 4 {
-        malformed();
-        return;
+        return malformed(rt);
     }
     let answer = Answer::AlarmAck {
         slot: fields[1],
         alarm: fields[2],
         specifier: fields[3],
     };
-    written_answer(answer, behind(fields, 4), out);
+    written_answer(rt, answer, behind(fields, 4), out)
 }
 
 // A number for the kind of answer, three bytes for its fields, and its data.
-pub(crate) fn answer_fields(fields: &[u8], out: &mut [u8]) {
+pub(crate) fn answer_fields(rt: &impl Print, fields: &[u8], out: &mut [u8]) -> io::Result<()> {
     if fields.len() < 4 {
-        malformed();
-        return;
+        return malformed(rt);
     }
     let slot = fields[1];
     let index = fields[2];
     let data = behind(fields, 4);
     match fields[0] {
-        1 => written_answer(Answer::Read { slot, index }, data, out),
-        2 => write_fields(fields, out),
-        3 => alarm_fields(fields, out),
-        4 => written_answer(Answer::Idle, data, out),
-        5 => written_answer(Answer::Transport { slot, index }, data, out),
-        6 => negative_fields(Function::Read, fields, out),
-        7 => negative_fields(Function::Write, fields, out),
-        8 => negative_fields(Function::AlarmAck, fields, out),
-        9 => negative_fields(Function::Transport, fields, out),
-        _ => malformed(),
+        1 => written_answer(rt, Answer::Read { slot, index }, data, out),
+        2 => write_fields(rt, fields, out),
+        3 => alarm_fields(rt, fields, out),
+        4 => written_answer(rt, Answer::Idle, data, out),
+        5 => written_answer(rt, Answer::Transport { slot, index }, data, out),
+        6 => negative_fields(rt, Function::Read, fields, out),
+        7 => negative_fields(rt, Function::Write, fields, out),
+        8 => negative_fields(rt, Function::AlarmAck, fields, out),
+        9 => negative_fields(rt, Function::Transport, fields, out),
+        _ => malformed(rt),
     }
 }

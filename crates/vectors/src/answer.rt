@@ -2,35 +2,36 @@
 // SD1, 3 SD2, 4 SD3), DA, SA, FC, DSAP, SSAP, and the start and the length of its user data.
 use crate::text::{byte_field, decimal, field, place, text};
 use fdl::{Format, Header, Reading, Sap};
+use std::io;
 
 // 255 where there is none: no access point is above 63.
-fn access_point(sap: Sap) {
+fn access_point(rt: &impl Print, sap: Sap) -> io::Result<()> {
     match sap {
-        Sap::Absent => field(255),
-        Sap::Present(number) => byte_field(number),
+        Sap::Absent => field(rt, 255),
+        Sap::Present(number) => byte_field(rt, number),
     }
 }
 
 // The kind, DA, SA and FC.
-pub(crate) fn head_fields(kind: u8, header: Header) {
-    byte_field(kind);
-    byte_field(header.da);
-    byte_field(header.sa);
-    byte_field(header.fc);
+pub(crate) fn head_fields(rt: &impl Print, kind: u8, header: Header) -> io::Result<()> {
+    byte_field(rt, kind)?;
+    byte_field(rt, header.da)?;
+    byte_field(rt, header.sa)?;
+    byte_field(rt, header.fc)
 }
 
-fn fields(kind: u8, header: Header, start: usize, len: usize) {
-    text(b"0");
-    head_fields(kind, header);
+fn fields(rt: &impl Print, kind: u8, header: Header, start: usize, len: usize) -> io::Result<()> {
+    text(rt, b"0")?;
+    head_fields(rt, kind, header)?;
     let dsap = header.dsap;
-    access_point(dsap);
+    access_point(rt, dsap)?;
     let ssap = header.ssap;
-    access_point(ssap);
-    place(start, len);
+    access_point(rt, ssap)?;
+    place(rt, start, len)
 }
 
 // The fields of a telegram that has no more than addresses.
-fn address_fields(kind: u8, da: u8, sa: u8) {
+fn address_fields(rt: &impl Print, kind: u8, da: u8, sa: u8) -> io::Result<()> {
     let header = Header {
         da,
         sa,
@@ -38,7 +39,7 @@ fn address_fields(kind: u8, da: u8, sa: u8) {
         dsap: Sap::Absent,
         ssap: Sap::Absent,
     };
-    fields(kind, header, 0, 0);
+    fields(rt, kind, header, 0, 0)
 }
 
 pub(crate) fn kind_of(format: Format) -> u8 {
@@ -49,22 +50,22 @@ pub(crate) fn kind_of(format: Format) -> u8 {
     }
 }
 
-pub(crate) fn telegram(bytes: &[u8]) {
+pub(crate) fn telegram(rt: &impl Print, bytes: &[u8]) -> io::Result<()> {
     match fdl_reader::read(bytes) {
-        Reading::Confirmation => address_fields(0, 0, 0),
-        Reading::Token { da, sa } => address_fields(1, da, sa),
+        Reading::Confirmation => address_fields(rt, 0, 0, 0)?,
+        Reading::Token { da, sa } => address_fields(rt, 1, da, sa)?,
         Reading::Telegram {
             format,
             header,
             start,
             len,
-        } => fields(kind_of(format), header, start, len),
-        Reading::Refused(refusal) => decimal(refusal.number as usize),
+        } => fields(rt, kind_of(format), header, start, len)?,
+        Reading::Refused(refusal) => decimal(rt, refusal.number as usize)?,
     }
-    text(b"\n");
+    text(rt, b"\n")
 }
 
 // Stands in the place of an answer, so that a slip in the text cannot pass for a telegram.
-pub(crate) fn malformed() {
-    text(b"malformed\n");
+pub(crate) fn malformed(rt: &impl Print) -> io::Result<()> {
+    text(rt, b"malformed\n")
 }

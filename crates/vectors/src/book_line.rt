@@ -4,38 +4,36 @@ use crate::answer::malformed;
 use crate::outcome::{again, behind, refused, stored, walk_refused};
 use crate::text::{byte_field, field, place, text};
 use book::{Reading, Template};
+use std::io;
 
-fn templates_end(found: Template) {
+fn templates_end(rt: &impl Print, found: Template) -> io::Result<()> {
     match found {
         Template::Is {
             slot: _,
             start: _,
             len: _,
-        } => {}
-        Template::Refused(refusal) => walk_refused(refusal),
+        } => Ok(()),
+        Template::Refused(refusal) => walk_refused(rt, refusal),
     }
 }
 
 // Each template, and the number that the first one gets that is not there. No book has a template 17.
-fn templates(bytes: &[u8]) {
-    let mut k: usize = 1;
-    while k < 18 {
+fn templates(rt: &impl Print, bytes: &[u8]) -> io::Result<()> {
+    for k in 1..18 {
         let found = book_reader::template(bytes, k);
         let Template::Is { slot, start, len } = found else {
-            templates_end(found);
-            return;
+            return templates_end(rt, found);
         };
-        text(b" |");
-        byte_field(slot);
-        place(start, len);
-        k += 1;
+        text(rt, b" |")?;
+        byte_field(rt, slot)?;
+        place(rt, start, len)?;
     }
+    Ok(())
 }
 
 // Takes slots and lengths apart, which stand in turn behind the count.
 fn take_apart(bytes: &[u8], slots: &mut [u8], lengths: &mut [u8]) {
-    let mut i: usize = 0;
-    while i < 16 {
+    for i in 0..16 {
         if bytes.len() < 3 + 2 * i {
             return;
         }
@@ -47,15 +45,14 @@ fn take_apart(bytes: &[u8], slots: &mut [u8], lengths: &mut [u8]) {
         }
         slots[i] = bytes[1 + 2 * i];
         lengths[i] = bytes[2 + 2 * i];
-        i += 1;
     }
 }
 
 // What writing makes of the slots, lengths and bodies of a book that was read. No book has more than
 // 16 templates.
-fn written_again(count: usize, bytes: &[u8], out: &mut [u8]) {
+fn written_again(rt: &impl Print, count: usize, bytes: &[u8], out: &mut [u8]) -> io::Result<()> {
     if 16 < count {
-        return;
+        return Ok(());
     }
     let mut slots = [0u8; 16];
     let mut lengths = [0u8; 16];
@@ -66,53 +63,56 @@ fn written_again(count: usize, bytes: &[u8], out: &mut [u8]) {
         behind(bytes, 1 + 2 * count),
         out,
     );
-    again(written, out);
+    again(rt, written, out)
 }
 
-pub(crate) fn book_line(bytes: &[u8], out: &mut [u8]) {
+pub(crate) fn book_line(rt: &impl Print, bytes: &[u8], out: &mut [u8]) -> io::Result<()> {
     match book_reader::read(bytes) {
         Reading::Refused(refusal) => {
-            refused(refusal);
-            templates(bytes);
-            text(b"\n");
+            refused(rt, refusal)?;
+            templates(rt, bytes)?;
+            text(rt, b"\n")
         }
         Reading::Book { count } => {
-            text(b"0");
-            field(count);
-            templates(bytes);
-            written_again(count, bytes, out);
-            text(b"\n");
+            text(rt, b"0")?;
+            field(rt, count)?;
+            templates(rt, bytes)?;
+            written_again(rt, count, bytes, out)?;
+            text(rt, b"\n")
         }
     }
 }
 
 // Of the fields behind the slots and behind the number of lengths, the lengths and the bodies.
-fn after_slots(slots: &[u8], count: u8, fields: &[u8], out: &mut [u8]) {
+fn after_slots(
+    rt: &impl Print,
+    slots: &[u8],
+    count: u8,
+    fields: &[u8],
+    out: &mut [u8],
+) -> io::Result<()> {
     let n = count as usize;
     if fields.len() < n {
-        malformed();
-        return;
+        return malformed(rt);
     }
     let written = book_writer::write(slots, octets::part(fields, 0, n), behind(fields, n), out);
-    stored(written, out);
+    stored(rt, written, out)
 }
 
 // Of the fields behind the number of slots, the slots.
-fn after_count(count: u8, fields: &[u8], out: &mut [u8]) {
+fn after_count(rt: &impl Print, count: u8, fields: &[u8], out: &mut [u8]) -> io::Result<()> {
     let n = count as usize;
     if fields.len() <= n {
-        malformed();
-        return;
+        return malformed(rt);
     }
     let slots = octets::part(fields, 0, n);
-    after_slots(slots, fields[n], behind(fields, n + 1), out);
+    after_slots(rt, slots, fields[n], behind(fields, n + 1), out)
 }
 
 // How many slots there are, and the slots; how many lengths there are, the lengths, and the bodies.
-pub(crate) fn book_fields(fields: &[u8], out: &mut [u8]) {
+pub(crate) fn book_fields(rt: &impl Print, fields: &[u8], out: &mut [u8]) -> io::Result<()> {
     if fields.len() < 1 {
-        malformed();
-        return;
+        return malformed(rt);
     }
-    after_count(fields[0], behind(fields, 1), out);
+    after_count(rt, fields[0], behind(fields, 1), out)
 }

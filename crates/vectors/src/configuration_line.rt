@@ -3,54 +3,59 @@
 use crate::answer::malformed;
 use crate::outcome::{again, behind, refused, stored, walk_refused};
 use crate::text::{byte_field, field, flag_field, place, text, word_field};
+use std::io;
 
-fn side(side: configuration::Side) {
+fn side(rt: &impl Print, side: configuration::Side) -> io::Result<()> {
     match side {
-        configuration::Side::Absent => text(b" -"),
+        configuration::Side::Absent => text(rt, b" -"),
         configuration::Side::Present {
             units,
             words,
             consistent,
         } => {
-            byte_field(units);
-            flag_field(words);
-            flag_field(consistent);
+            byte_field(rt, units)?;
+            flag_field(rt, words)?;
+            flag_field(rt, consistent)
         }
     }
 }
 
-fn module(module: configuration::Module, start: usize, len: usize) {
+fn module(
+    rt: &impl Print,
+    module: configuration::Module,
+    start: usize,
+    len: usize,
+) -> io::Result<()> {
     let identifier = module.identifier;
     match identifier {
-        configuration::Identifier::General => text(b" | general"),
-        configuration::Identifier::Special => text(b" | special"),
+        configuration::Identifier::General => text(rt, b" | general")?,
+        configuration::Identifier::Special => text(rt, b" | special")?,
     }
     let input = module.input;
-    side(input);
+    side(rt, input)?;
     let output = module.output;
-    side(output);
-    place(start, len);
+    side(rt, output)?;
+    place(rt, start, len)
 }
 
-fn modules_end(step: configuration::Step) {
+fn modules_end(rt: &impl Print, step: configuration::Step) -> io::Result<()> {
     match step {
         configuration::Step::Module {
             module: _,
             start: _,
             len: _,
             next: _,
-        } => {}
-        configuration::Step::End => text(b" ."),
-        configuration::Step::Refused(refusal) => walk_refused(refusal),
+        } => Ok(()),
+        configuration::Step::End => text(rt, b" ."),
+        configuration::Step::Refused(refusal) => walk_refused(rt, refusal),
     }
 }
 
-// Each module, and the bytes that writing makes of it again. No data has as many modules as the turns
-// that are counted down.
-fn modules(bytes: &[u8], out: &mut [u8]) {
+// Each module, and the bytes that writing makes of it again. No data has as many modules as the loop
+// has turns.
+fn modules(rt: &impl Print, bytes: &[u8], out: &mut [u8]) -> io::Result<()> {
     let mut position = configuration_walk::first();
-    let mut turns: usize = 4097;
-    while 0 < turns {
+    for _ in 0..4097 {
         let step = configuration_walk::next(bytes, position);
         let configuration::Step::Module {
             module: found,
@@ -59,77 +64,79 @@ fn modules(bytes: &[u8], out: &mut [u8]) {
             next,
         } = step
         else {
-            modules_end(step);
-            return;
+            return modules_end(rt, step);
         };
-        module(found, start, len);
+        module(rt, found, start, len)?;
         let written = configuration_writer::write_module(
             found,
             octets::part(bytes, start, len),
             out,
         );
-        again(written, out);
+        again(rt, written, out)?;
         position = next;
-        turns -= 1;
     }
+    Ok(())
 }
 
-fn offset_fields(count: usize, inputs: &[u16], outputs: &[u16]) {
-    let mut i = 0;
-    while i < count {
+fn offset_fields(rt: &impl Print, count: usize, inputs: &[u16], outputs: &[u16]) -> io::Result<()> {
+    for i in 0..count {
         if inputs.len() <= i {
-            return;
+            return Ok(());
         }
         if outputs.len() <= i {
-            return;
+            return Ok(());
         }
-        word_field(inputs[i]);
-        word_field(outputs[i]);
-        i += 1;
+        word_field(rt, inputs[i])?;
+        word_field(rt, outputs[i])?;
     }
+    Ok(())
 }
 
-fn totals(bytes: &[u8]) -> configuration::Reading {
+fn totals(rt: &impl Print, bytes: &[u8]) -> io::Result<configuration::Reading> {
     let mut inputs = [0u16; 244];
     let mut outputs = [0u16; 244];
     let reading = configuration_reader::offsets(bytes, &mut inputs, &mut outputs);
     match reading {
-        configuration::Reading::Refused(refusal) => refused(refusal),
+        configuration::Reading::Refused(refusal) => refused(rt, refusal)?,
         configuration::Reading::Configuration {
             modules: count,
             inputs: input,
             outputs: output,
         } => {
-            text(b"0");
-            field(count);
-            field(input);
-            field(output);
-            offset_fields(count, &inputs, &outputs);
+            text(rt, b"0")?;
+            field(rt, count)?;
+            field(rt, input)?;
+            field(rt, output)?;
+            offset_fields(rt, count, &inputs, &outputs)?;
         }
     }
-    reading
+    Ok(reading)
 }
 
-pub(crate) fn configuration_line(bytes: &[u8], out: &mut [u8]) {
-    let reading = totals(bytes);
-    modules(bytes, out);
+pub(crate) fn configuration_line(rt: &impl Print, bytes: &[u8], out: &mut [u8]) -> io::Result<()> {
+    let reading = totals(rt, bytes)?;
+    modules(rt, bytes, out)?;
     match reading {
-        configuration::Reading::Refused(_) => text(b"\n"),
+        configuration::Reading::Refused(_) => text(rt, b"\n"),
         configuration::Reading::Configuration {
             modules: _,
             inputs: _,
             outputs: _,
         } => {
             let written = configuration_writer::write(bytes, out);
-            again(written, out);
-            text(b"\n");
+            again(rt, written, out)?;
+            text(rt, b"\n")
         }
     }
 }
 
-pub(crate) fn configuration_fields(modules: &[u8], out: &mut [u8]) {
+pub(crate) fn configuration_fields(
+    rt: &impl Print,
+    modules: &[u8],
+    out: &mut [u8],
+) -> io::Result<()> {
     let written = configuration_writer::write(modules, out);
-    stored(written, out);
+    stored(rt, written, out)
 }
 
 #[derive(Drop)]
@@ -159,19 +166,18 @@ fn given_side(present: u8, units: u8, words: u8, consistent: u8) -> GivenSide {
 }
 
 fn written_module(
+    rt: &impl Print,
     identifier: configuration::Identifier,
     input: GivenSide,
     output: GivenSide,
     vendor: &[u8],
     out: &mut [u8],
-) {
+) -> io::Result<()> {
     let GivenSide::Is(input) = input else {
-        malformed();
-        return;
+        return malformed(rt);
     };
     let GivenSide::Is(output) = output else {
-        malformed();
-        return;
+        return malformed(rt);
     };
     let module = configuration::Module {
         identifier,
@@ -179,38 +185,37 @@ fn written_module(
         output,
     };
     let written = configuration_writer::write_module(module, vendor, out);
-    stored(written, out);
+    stored(rt, written, out)
 }
 
 // The identifier format, 0 general and 1 special; of each side, input first, whether it is there, its
 // units, words and consistency; and the vendor bytes, which the general format has not.
-pub(crate) fn module_fields(fields: &[u8], out: &mut [u8]) {
+pub(crate) fn module_fields(rt: &impl Print, fields: &[u8], out: &mut [u8]) -> io::Result<()> {
     if fields.len() < 9 {
-        malformed();
-        return;
+        return malformed(rt);
     }
     let input = given_side(fields[1], fields[2], fields[3], fields[4]);
     let output = given_side(fields[5], fields[6], fields[7], fields[8]);
     let vendor = behind(fields, 9);
     if fields[0] == 1 {
-        written_module(
+        return written_module(
+            rt,
             configuration::Identifier::Special,
             input,
             output,
             vendor,
             out,
         );
-        return;
     }
     if fields[0] != 0 {
-        malformed();
-        return;
+        return malformed(rt);
     }
     written_module(
+        rt,
         configuration::Identifier::General,
         input,
         output,
         vendor,
         out,
-    );
+    )
 }

@@ -2,65 +2,68 @@
 use crate::answer::malformed;
 use crate::outcome::{again, behind, refused, stored};
 use crate::text::{byte_field, place, text, word_field};
+use std::io;
 
-pub(crate) fn change_words(change: address_change::AddressChange) {
-    byte_field(change.address);
-    word_field(change.ident);
-    byte_field(change.locked);
+pub(crate) fn change_words(
+    rt: &impl Print,
+    change: address_change::AddressChange,
+) -> io::Result<()> {
+    byte_field(rt, change.address)?;
+    word_field(rt, change.ident)?;
+    byte_field(rt, change.locked)
 }
 
-pub(crate) fn address_line(bytes: &[u8], out: &mut [u8]) {
+pub(crate) fn address_line(rt: &impl Print, bytes: &[u8], out: &mut [u8]) -> io::Result<()> {
     match address_change::read_address_change(bytes) {
         address_change::AddressReading::Refused(refusal) => {
-            refused(refusal);
-            text(b"\n");
+            refused(rt, refusal)?;
+            text(rt, b"\n")
         }
         address_change::AddressReading::Change { fields, start, len } => {
-            text(b"0");
-            change_words(fields);
-            place(start, len);
+            text(rt, b"0")?;
+            change_words(rt, fields)?;
+            place(rt, start, len)?;
             let written = address_change::write_address_change(
                 fields,
                 octets::part(bytes, start, len),
                 out,
             );
-            again(written, out);
-            text(b"\n");
+            again(rt, written, out)?;
+            text(rt, b"\n")
         }
     }
 }
 
-pub(crate) fn command_words(command: control::GlobalCommand) {
-    byte_field(command.command);
-    byte_field(command.groups);
+pub(crate) fn command_words(rt: &impl Print, command: control::GlobalCommand) -> io::Result<()> {
+    byte_field(rt, command.command)?;
+    byte_field(rt, command.groups)
 }
 
-pub(crate) fn command_line(bytes: &[u8], out: &mut [u8]) {
+pub(crate) fn command_line(rt: &impl Print, bytes: &[u8], out: &mut [u8]) -> io::Result<()> {
     match control::read_global_command(bytes) {
         control::CommandReading::Refused(refusal) => {
-            refused(refusal);
-            text(b"\n");
+            refused(rt, refusal)?;
+            text(rt, b"\n")
         }
         control::CommandReading::Command { fields, start, len } => {
-            text(b"0");
-            command_words(fields);
-            place(start, len);
+            text(rt, b"0")?;
+            command_words(rt, fields)?;
+            place(rt, start, len)?;
             let written = control::write_global_command(
                 fields,
                 octets::part(bytes, start, len),
                 out,
             );
-            again(written, out);
-            text(b"\n");
+            again(rt, written, out)?;
+            text(rt, b"\n")
         }
     }
 }
 
 // Address, ident, the last byte, and the rest.
-pub(crate) fn address_fields(fields: &[u8], out: &mut [u8]) {
+pub(crate) fn address_fields(rt: &impl Print, fields: &[u8], out: &mut [u8]) -> io::Result<()> {
     if fields.len() < 4 {
-        malformed();
-        return;
+        return malformed(rt);
     }
     let change = address_change::AddressChange {
         address: fields[0],
@@ -68,19 +71,18 @@ pub(crate) fn address_fields(fields: &[u8], out: &mut [u8]) {
         locked: fields[3],
     };
     let written = address_change::write_address_change(change, behind(fields, 4), out);
-    stored(written, out);
+    stored(rt, written, out)
 }
 
 // Command, groups, and the rest.
-pub(crate) fn command_fields(fields: &[u8], out: &mut [u8]) {
+pub(crate) fn command_fields(rt: &impl Print, fields: &[u8], out: &mut [u8]) -> io::Result<()> {
     if fields.len() < 2 {
-        malformed();
-        return;
+        return malformed(rt);
     }
     let command = control::GlobalCommand {
         command: fields[0],
         groups: fields[1],
     };
     let written = control::write_global_command(command, behind(fields, 2), out);
-    stored(written, out);
+    stored(rt, written, out)
 }

@@ -3,19 +3,20 @@
 use crate::answer::malformed;
 use crate::outcome::{again, behind, refused, stored, walk_refused};
 use crate::text::{byte_field, field, place, text, word_field};
+use std::io;
 
-fn lowest(lowest: diagnosis::Lowest) {
+fn lowest(rt: &impl Print, lowest: diagnosis::Lowest) -> io::Result<()> {
     match lowest {
-        diagnosis::Lowest::Module(number) => field(number),
-        diagnosis::Lowest::Nothing => text(b" -"),
+        diagnosis::Lowest::Module(number) => field(rt, number),
+        diagnosis::Lowest::Nothing => text(rt, b" -"),
     }
 }
 
-fn block(block: diagnosis::Block) {
+fn block(rt: &impl Print, block: diagnosis::Block) -> io::Result<()> {
     match block {
         diagnosis::Block::Device { start, len } => {
-            text(b" | device");
-            place(start, len);
+            text(rt, b" | device")?;
+            place(rt, start, len)
         }
         diagnosis::Block::Module {
             start,
@@ -23,81 +24,78 @@ fn block(block: diagnosis::Block) {
             set,
             lowest: first,
         } => {
-            text(b" | module");
-            place(start, len);
-            field(set);
-            lowest(first);
+            text(rt, b" | module")?;
+            place(rt, start, len)?;
+            field(rt, set)?;
+            lowest(rt, first)
         }
         diagnosis::Block::Channel(channel) => {
-            text(b" | channel");
-            byte_field(channel.module);
-            byte_field(channel.direction);
-            byte_field(channel.channel);
-            byte_field(channel.kind);
-            byte_field(channel.error);
+            text(rt, b" | channel")?;
+            byte_field(rt, channel.module)?;
+            byte_field(rt, channel.direction)?;
+            byte_field(rt, channel.channel)?;
+            byte_field(rt, channel.kind)?;
+            byte_field(rt, channel.error)
         }
     }
 }
 
-fn blocks_end(step: diagnosis::Step) {
+fn blocks_end(rt: &impl Print, step: diagnosis::Step) -> io::Result<()> {
     match step {
-        diagnosis::Step::Block(_, _) => {}
-        diagnosis::Step::End => text(b" ."),
-        diagnosis::Step::Refused(refusal) => walk_refused(refusal),
+        diagnosis::Step::Block(_, _) => Ok(()),
+        diagnosis::Step::End => text(rt, b" ."),
+        diagnosis::Step::Refused(refusal) => walk_refused(rt, refusal),
     }
 }
 
-// No data has as many blocks as the turns that are counted down.
-fn blocks(bytes: &[u8]) {
+// No data has as many blocks as the loop has turns.
+fn blocks(rt: &impl Print, bytes: &[u8]) -> io::Result<()> {
     let mut position = diagnosis_walk::first();
-    let mut turns: usize = 4097;
-    while 0 < turns {
+    for _ in 0..4097 {
         let step = diagnosis_walk::next(bytes, position);
         let diagnosis::Step::Block(found, next) = step else {
-            blocks_end(step);
-            return;
+            return blocks_end(rt, step);
         };
-        block(found);
+        block(rt, found)?;
         position = next;
-        turns -= 1;
     }
+    Ok(())
 }
 
-pub(crate) fn header_words(header: diagnosis::Header) {
-    byte_field(header.status1);
-    byte_field(header.status2);
-    byte_field(header.status3);
-    byte_field(header.master);
-    word_field(header.ident);
+pub(crate) fn header_words(rt: &impl Print, header: diagnosis::Header) -> io::Result<()> {
+    byte_field(rt, header.status1)?;
+    byte_field(rt, header.status2)?;
+    byte_field(rt, header.status3)?;
+    byte_field(rt, header.master)?;
+    word_field(rt, header.ident)
 }
 
-pub(crate) fn diagnosis_line(bytes: &[u8], out: &mut [u8]) {
+pub(crate) fn diagnosis_line(rt: &impl Print, bytes: &[u8], out: &mut [u8]) -> io::Result<()> {
     match diagnosis_reader::read(bytes) {
         diagnosis::Reading::Refused(refusal) => {
-            refused(refusal);
-            blocks(bytes);
-            text(b"\n");
+            refused(rt, refusal)?;
+            blocks(rt, bytes)?;
+            text(rt, b"\n")
         }
         diagnosis::Reading::Diagnosis {
             header,
             blocks: count,
         } => {
-            text(b"0");
-            header_words(header);
-            field(count);
-            blocks(bytes);
+            text(rt, b"0")?;
+            header_words(rt, header)?;
+            field(rt, count)?;
+            blocks(rt, bytes)?;
             let written = diagnosis_writer::write(header, behind(bytes, 6), out);
-            again(written, out);
-            text(b"\n");
+            again(rt, written, out)?;
+            text(rt, b"\n")
         }
     }
 }
 
 // Status 1 to 3, master, ident, and the bytes of the blocks.
-pub(crate) fn diagnosis_fields(fields: &[u8], out: &mut [u8]) {
+pub(crate) fn diagnosis_fields(rt: &impl Print, fields: &[u8], out: &mut [u8]) -> io::Result<()> {
     if fields.len() < 6 {
-        malformed();
-        return;
+        return malformed(rt);
     }
     let header = diagnosis::Header {
         status1: fields[0],
@@ -107,24 +105,23 @@ pub(crate) fn diagnosis_fields(fields: &[u8], out: &mut [u8]) {
         ident: octets::join16(fields[4], fields[5]),
     };
     let written = diagnosis_writer::write(header, behind(fields, 6), out);
-    stored(written, out);
+    stored(rt, written, out)
 }
 
-pub(crate) fn device_fields(bytes: &[u8], out: &mut [u8]) {
+pub(crate) fn device_fields(rt: &impl Print, bytes: &[u8], out: &mut [u8]) -> io::Result<()> {
     let written = diagnosis_block_writer::write_device(bytes, out);
-    stored(written, out);
+    stored(rt, written, out)
 }
 
-pub(crate) fn map_fields(map: &[u8], out: &mut [u8]) {
+pub(crate) fn map_fields(rt: &impl Print, map: &[u8], out: &mut [u8]) -> io::Result<()> {
     let written = diagnosis_block_writer::write_module(map, out);
-    stored(written, out);
+    stored(rt, written, out)
 }
 
 // Module, direction, channel, type and error.
-pub(crate) fn channel_fields(fields: &[u8], out: &mut [u8]) {
+pub(crate) fn channel_fields(rt: &impl Print, fields: &[u8], out: &mut [u8]) -> io::Result<()> {
     if fields.len() != 5 {
-        malformed();
-        return;
+        return malformed(rt);
     }
     let channel = diagnosis::Channel {
         module: fields[0],
@@ -134,5 +131,5 @@ pub(crate) fn channel_fields(fields: &[u8], out: &mut [u8]) {
         error: fields[4],
     };
     let written = diagnosis_block_writer::write_channel(channel, out);
-    stored(written, out);
+    stored(rt, written, out)
 }

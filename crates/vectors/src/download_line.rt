@@ -5,35 +5,47 @@ use crate::answer::malformed;
 use crate::outcome::behind;
 use crate::text::{byte_field, decimal, hex_fields, text, word_field};
 use protocol::{Downloaded, Ending, Pending, Printer, Settings};
+use std::io;
 
-fn ending_fields(how: Ending) {
+fn ending_fields(rt: &impl Print, how: Ending) -> io::Result<()> {
     let mut ending = [0u8; 4];
     controller_bytes::put_ending(how, &mut ending);
-    byte_field(ending[0]);
-    byte_field(ending[1]);
-    byte_field(ending[2]);
-    byte_field(ending[3]);
+    byte_field(rt, ending[0])?;
+    byte_field(rt, ending[1])?;
+    byte_field(rt, ending[2])?;
+    byte_field(rt, ending[3])
 }
 
 // A slot that has no template has no length.
-fn slot_fields(slot: u8, length: u8, bodies: &[u8; 3200]) {
+fn slot_fields(rt: &impl Print, slot: u8, length: u8, bodies: &[u8; 3200]) -> io::Result<()> {
     if length == 0 {
-        return;
+        return Ok(());
     }
-    text(b" |");
-    byte_field(slot);
-    byte_field(length);
-    hex_fields(octets::part(bodies, 200 * slot as usize, length as usize));
+    text(rt, b" |")?;
+    byte_field(rt, slot)?;
+    byte_field(rt, length)?;
+    hex_fields(
+        rt,
+        octets::part(bodies, 200 * slot as usize, length as usize),
+    )
 }
 
-fn slots_fields(lengths: &[u8; 16], bodies: &[u8; 3200]) {
+fn slots_fields(rt: &impl Print, lengths: &[u8; 16], bodies: &[u8; 3200]) -> io::Result<()> {
     for slot in 0..16 {
-        slot_fields(slot, lengths[slot as usize], bodies);
+        slot_fields(rt, slot, lengths[slot as usize], bodies)?;
     }
+    Ok(())
 }
 
 // The diagnosis is as short as one can be: nothing of it is answered but that it came.
-fn downloaded(settings: Settings, printer: Printer, line: &[u8], not_yet: &[u8], book: &[u8]) {
+fn downloaded(
+    rt: &impl Print,
+    settings: Settings,
+    printer: Printer,
+    line: &[u8],
+    not_yet: &[u8],
+    book: &[u8],
+) -> io::Result<()> {
     let mut lengths = [0u8; 16];
     let mut bodies = [0u8; 3200];
     let mut reply = [0u8; 255];
@@ -51,42 +63,53 @@ fn downloaded(settings: Settings, printer: Printer, line: &[u8], not_yet: &[u8],
         &mut request,
     );
     match outcome {
-        Downloaded::Refused(number) => decimal(number as usize),
+        Downloaded::Refused(number) => decimal(rt, number as usize)?,
         Downloaded::Ended {
             ending,
             sent,
             printer,
         } => {
-            text(b"0");
-            ending_fields(ending);
-            word_field(sent);
-            byte_field(printer.writes);
-            slots_fields(&lengths, &bodies);
+            text(rt, b"0")?;
+            ending_fields(rt, ending)?;
+            word_field(rt, sent)?;
+            byte_field(rt, printer.writes)?;
+            slots_fields(rt, &lengths, &bodies)?;
         }
     }
-    text(b"\n");
+    text(rt, b"\n")
 }
 
 // Of the bytes behind the number of "not yet" numbers, the numbers and the book.
-fn after_line(settings: Settings, printer: Printer, line: &[u8], count: u8, bytes: &[u8]) {
+fn after_line(
+    rt: &impl Print,
+    settings: Settings,
+    printer: Printer,
+    line: &[u8],
+    count: u8,
+    bytes: &[u8],
+) -> io::Result<()> {
     let n = count as usize;
     if bytes.len() < n {
-        malformed();
-        return;
+        return malformed(rt);
     }
     let not_yet = octets::part(bytes, 0, n);
-    downloaded(settings, printer, line, not_yet, behind(bytes, n));
+    downloaded(rt, settings, printer, line, not_yet, behind(bytes, n))
 }
 
 // Of the bytes behind the number of entries, the line.
-fn after_count(settings: Settings, printer: Printer, count: u8, bytes: &[u8]) {
+fn after_count(
+    rt: &impl Print,
+    settings: Settings,
+    printer: Printer,
+    count: u8,
+    bytes: &[u8],
+) -> io::Result<()> {
     let n = count as usize;
     if bytes.len() <= n {
-        malformed();
-        return;
+        return malformed(rt);
     }
     let line = octets::part(bytes, 0, n);
-    after_line(settings, printer, line, bytes[n], behind(bytes, n + 1));
+    after_line(rt, settings, printer, line, bytes[n], behind(bytes, n + 1))
 }
 
 // A printer that has heard nothing.
@@ -105,15 +128,13 @@ fn fresh(address: u8, boarding: bool) -> Printer {
 // The printer set, the controller set, R and P; the printer's own address, and 1 while it is boarding, else
 // 0; how many entries the line has, and the entries; how many "not yet" numbers there are, the numbers,
 // and the book.
-pub(crate) fn download_line(bytes: &[u8]) {
+pub(crate) fn download_line(rt: &impl Print, bytes: &[u8]) -> io::Result<()> {
     if bytes.len() < 7 {
-        malformed();
-        return;
+        return malformed(rt);
     }
     let boarding = bytes[5];
     if 1 < boarding {
-        malformed();
-        return;
+        return malformed(rt);
     }
     let settings = Settings {
         printer: bytes[0],
@@ -122,5 +143,5 @@ pub(crate) fn download_line(bytes: &[u8]) {
         polls: bytes[3],
     };
     let printer = fresh(bytes[4], boarding == 1);
-    after_count(settings, printer, bytes[6], behind(bytes, 7));
+    after_count(rt, settings, printer, bytes[6], behind(bytes, 7))
 }

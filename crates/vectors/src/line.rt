@@ -4,6 +4,7 @@
 // with single spaces between them; an empty line has no bytes.
 use crate::answer;
 use crate::subject::{Named, Subject, answer_to, fields_of, subject_of};
+use std::io;
 
 // What a line has come to.
 #[derive(Drop)]
@@ -139,67 +140,83 @@ fn after_letter(named: Named, subject: Subject) -> Line {
 }
 
 // The end of a line.
-fn end(place: Place, subject: Subject, bytes: &[u8], out: &mut [u8]) {
+fn end(
+    rt: &impl Print,
+    place: Place,
+    subject: Subject,
+    bytes: &[u8],
+    out: &mut [u8],
+) -> io::Result<()> {
     match place {
-        Place::Start => answer_to(subject, bytes, out),
-        Place::Comment => {}
-        Place::Named => {}
-        Place::Byte => answer_to(subject, bytes, out),
-        _ => answer::malformed(),
+        Place::Start => answer_to(rt, subject, bytes, out),
+        Place::Comment => Ok(()),
+        Place::Named => Ok(()),
+        Place::Byte => answer_to(rt, subject, bytes, out),
+        _ => answer::malformed(rt),
     }
 }
 
 // The line after one more byte of text. Writing goes to out.
-fn after(line: Line, byte: u8, bytes: &mut [u8], out: &mut [u8]) -> Line {
+fn after(
+    rt: &impl Print,
+    line: Line,
+    byte: u8,
+    bytes: &mut [u8],
+    out: &mut [u8],
+) -> io::Result<Line> {
     let place = line.place;
     let subject = line.subject;
     let count = line.count;
     if byte == b'\n' {
-        end(place, subject, octets::part(bytes, 0, count), out);
-        return start_of(subject);
+        end(rt, place, subject, octets::part(bytes, 0, count), out)?;
+        return Ok(start_of(subject));
     }
     let next = match place {
         Place::Start => after_start(byte),
         Place::Comment => Place::Comment,
-        Place::Naming => return after_letter(subject_of(byte), subject),
-        Place::NamingFields => return after_letter(fields_of(byte), subject),
+        Place::Naming => return Ok(after_letter(subject_of(byte), subject)),
+        Place::NamingFields => return Ok(after_letter(fields_of(byte), subject)),
         Place::Named => Place::Malformed,
         Place::Space => first_digit(byte),
         Place::Digit(high) => {
             let digits = second_digit(high, byte, count, bytes);
             let place = digits.place;
-            return Line {
+            return Ok(Line {
                 place,
                 subject,
                 count: digits.count,
-            };
+            });
         }
         Place::Byte => after_byte(byte),
         Place::Malformed => Place::Malformed,
     };
-    Line {
+    Ok(Line {
         place: next,
         subject,
         count,
-    }
+    })
 }
 
 // The line after a part of the text.
-pub(crate) fn after_part(line: Line, part: &[u8], bytes: &mut [u8], out: &mut [u8]) -> Line {
+pub(crate) fn after_part(
+    rt: &impl Print,
+    line: Line,
+    part: &[u8],
+    bytes: &mut [u8],
+    out: &mut [u8],
+) -> io::Result<Line> {
     let mut now = line;
-    let mut i = 0;
-    while i < part.len() {
-        now = after(now, part[i], bytes, out);
-        i += 1;
+    for byte in part {
+        now = after(rt, now, *byte, bytes, out)?;
     }
-    now
+    Ok(now)
 }
 
 // The end of the text: every line ends before it.
-pub(crate) fn input_end(line: Line) {
+pub(crate) fn input_end(rt: &impl Print, line: Line) -> io::Result<()> {
     let place = line.place;
     match place {
-        Place::Start => {}
-        _ => answer::malformed(),
+        Place::Start => Ok(()),
+        _ => answer::malformed(rt),
     }
 }

@@ -2,6 +2,7 @@
 // and whole downloads as hex text on standard input, and the answer to each as a line on standard output:
 // an independent program answers the same text, and the two are compared.
 #![tactic(auto)]
+
 mod acyclic_line;
 mod answer;
 mod book_line;
@@ -17,23 +18,23 @@ mod subject;
 mod text;
 mod typed_line;
 
-use libc::STDIN_FILENO;
+use std::io;
+use std::io::Read;
 
-// A proved loop has to end, and nothing says that an input does. So the loop counts its turns down,
-// from a number that no run uses up.
-fn main() {
-    let mut part = io::large_buffer();
+// The input in parts, until it ends. A proved loop has to end, and nothing says that an input does. So
+// the turns are counted, up to a number that no run uses up.
+fn main(rt: HostRuntime) -> io::Result<()> {
+    let mut input = rt.stdin();
+    let mut part = [0u8; 65536];
     let mut bytes = [0u8; 4096];
     let mut out = [0u8; 4096];
     let mut line = line::start();
-    let mut turns = u64::MAX;
-    while 0 < turns {
-        let n = io::read_full(STDIN_FILENO, &mut part);
+    for _ in 0..u64::MAX {
+        let n = input.read(&mut part)?;
         if n == 0 {
             break;
         }
-        line = line::after_part(line, &part[..n], &mut bytes, &mut out);
-        turns -= 1;
+        line = line::after_part(&rt, line, &part[..n], &mut bytes, &mut out)?;
     }
-    line::input_end(line);
+    line::input_end(&rt, line)
 }

@@ -4,36 +4,37 @@
 // refusal number.
 use crate::text::{byte_field, decimal, hex_fields, text};
 use octets::{Refusal, Written};
+use std::io;
 
-pub(crate) fn refused(refusal: Refusal) {
-    decimal(refusal.number as usize);
+pub(crate) fn refused(rt: &impl Print, refusal: Refusal) -> io::Result<()> {
+    decimal(rt, refusal.number as usize)
 }
 
-pub(crate) fn walk_refused(refusal: Refusal) {
-    text(b" !");
-    byte_field(refusal.number);
+pub(crate) fn walk_refused(rt: &impl Print, refusal: Refusal) -> io::Result<()> {
+    text(rt, b" !")?;
+    byte_field(rt, refusal.number)
 }
 
 // What was written to out.
-pub(crate) fn again(written: Written, out: &[u8]) {
-    text(b" =");
+pub(crate) fn again(rt: &impl Print, written: Written, out: &[u8]) -> io::Result<()> {
+    text(rt, b" =")?;
     match written {
-        Written::Stored(n) => hex_fields(octets::part(out, 0, n)),
-        Written::Refused(number) => byte_field(number),
+        Written::Stored(n) => hex_fields(rt, octets::part(out, 0, n)),
+        Written::Refused(number) => byte_field(rt, number),
     }
 }
 
 // What a writer answered that was given fields: the refusal number; or 0, and after = the bytes that it
 // stored.
-pub(crate) fn stored(written: Written, out: &[u8]) {
+pub(crate) fn stored(rt: &impl Print, written: Written, out: &[u8]) -> io::Result<()> {
     match written {
         Written::Stored(n) => {
-            text(b"0 =");
-            hex_fields(octets::part(out, 0, n));
+            text(rt, b"0 =")?;
+            hex_fields(rt, octets::part(out, 0, n))?;
         }
-        Written::Refused(number) => decimal(number as usize),
+        Written::Refused(number) => decimal(rt, number as usize)?,
     }
-    text(b"\n");
+    text(rt, b"\n")
 }
 
 // What stands behind the first n bytes.

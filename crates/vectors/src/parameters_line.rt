@@ -4,51 +4,57 @@ use crate::answer::malformed;
 use crate::outcome::{again, behind, refused, stored};
 use crate::text::{byte_field, field, place, text, word_field};
 use octets::Mode;
+use std::io;
 
-fn extension(extension: parameters::Extension) {
+fn extension(rt: &impl Print, extension: parameters::Extension) -> io::Result<()> {
     match extension {
-        parameters::Extension::Dpv0 => {}
+        parameters::Extension::Dpv0 => Ok(()),
         parameters::Extension::Dpv1 {
             status1,
             status2,
             status3,
         } => {
-            byte_field(status1);
-            byte_field(status2);
-            byte_field(status3);
+            byte_field(rt, status1)?;
+            byte_field(rt, status2)?;
+            byte_field(rt, status3)
         }
     }
 }
 
-pub(crate) fn parameter_words(fields: parameters::Parameters) {
-    byte_field(fields.flags);
-    byte_field(fields.factor1);
-    byte_field(fields.factor2);
+pub(crate) fn parameter_words(rt: &impl Print, fields: parameters::Parameters) -> io::Result<()> {
+    byte_field(rt, fields.flags)?;
+    byte_field(rt, fields.factor1)?;
+    byte_field(rt, fields.factor2)?;
     let response = fields.response;
-    byte_field(response.0);
-    word_field(fields.ident);
-    byte_field(fields.groups);
+    byte_field(rt, response.0)?;
+    word_field(rt, fields.ident)?;
+    byte_field(rt, fields.groups)?;
     let added = fields.extension;
-    extension(added);
+    extension(rt, added)
 }
 
-pub(crate) fn parameters_line(bytes: &[u8], mode: Mode, out: &mut [u8]) {
+pub(crate) fn parameters_line(
+    rt: &impl Print,
+    bytes: &[u8],
+    mode: Mode,
+    out: &mut [u8],
+) -> io::Result<()> {
     match parameters_reader::read(bytes, mode) {
         parameters::Reading::Refused(refusal) => {
-            refused(refusal);
-            text(b"\n");
+            refused(rt, refusal)?;
+            text(rt, b"\n")
         }
         parameters::Reading::Parameters { fields, start, len } => {
-            text(b"0");
-            parameter_words(fields);
+            text(rt, b"0")?;
+            parameter_words(rt, fields)?;
             let watchdog = parameters::watchdog(fields);
-            field(watchdog.0 as usize);
+            field(rt, watchdog.0 as usize)?;
             let expired = parameters::expired(watchdog, parameters::Milliseconds(1000));
-            byte_field(octets::bit_of(expired));
-            place(start, len);
+            byte_field(rt, octets::bit_of(expired))?;
+            place(rt, start, len)?;
             let written = parameters_writer::write(fields, octets::part(bytes, start, len), out);
-            again(written, out);
-            text(b"\n");
+            again(rt, written, out)?;
+            text(rt, b"\n")
         }
     }
 }
@@ -56,14 +62,14 @@ pub(crate) fn parameters_line(bytes: &[u8], mode: Mode, out: &mut [u8]) {
 // Flags, both factors, response time, ident, groups, in DPV1 the three status bytes, and the user
 // bytes.
 fn written_parameters(
+    rt: &impl Print,
     fields: &[u8],
     extension: parameters::Extension,
     start: usize,
     out: &mut [u8],
-) {
+) -> io::Result<()> {
     if fields.len() < 7 {
-        malformed();
-        return;
+        return malformed(rt);
     }
     let response = parameters::BitTimes(fields[3]);
     let given = parameters::Parameters {
@@ -76,22 +82,21 @@ fn written_parameters(
         extension,
     };
     let written = parameters_writer::write(given, behind(fields, start), out);
-    stored(written, out);
+    stored(rt, written, out)
 }
 
-pub(crate) fn dpv0_fields(fields: &[u8], out: &mut [u8]) {
-    written_parameters(fields, parameters::Extension::Dpv0, 7, out);
+pub(crate) fn dpv0_fields(rt: &impl Print, fields: &[u8], out: &mut [u8]) -> io::Result<()> {
+    written_parameters(rt, fields, parameters::Extension::Dpv0, 7, out)
 }
 
-pub(crate) fn dpv1_fields(fields: &[u8], out: &mut [u8]) {
+pub(crate) fn dpv1_fields(rt: &impl Print, fields: &[u8], out: &mut [u8]) -> io::Result<()> {
     if fields.len() < 10 {
-        malformed();
-        return;
+        return malformed(rt);
     }
     let extension = parameters::Extension::Dpv1 {
         status1: fields[7],
         status2: fields[8],
         status3: fields[9],
     };
-    written_parameters(fields, extension, 10, out);
+    written_parameters(rt, fields, extension, 10, out)
 }

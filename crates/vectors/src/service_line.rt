@@ -10,55 +10,61 @@ use crate::text::{place, text};
 use content::Content;
 use octets::Mode;
 use service::{Reading, Way};
+use std::io;
 
-fn name_word(content: Content) {
+fn name_word(rt: &impl Print, content: Content) -> io::Result<()> {
     match content {
-        Content::DataExchange => text(b" data_exchange"),
-        Content::Dpv1Call(_) => text(b" dpv1"),
-        Content::Dpv1Answer(_) => text(b" dpv1"),
-        Content::ExtUserPrm => text(b" ext_user_prm"),
-        Content::SetSlaveAdr(_) => text(b" set_slave_adr"),
-        Content::RdInp => text(b" rd_inp"),
-        Content::RdOutp => text(b" rd_outp"),
-        Content::GlobalControl(_) => text(b" global_control"),
-        Content::GetCfg => text(b" get_cfg"),
-        Content::SlaveDiagCall => text(b" slave_diag"),
-        Content::SlaveDiag(_) => text(b" slave_diag"),
-        Content::SetPrm(_) => text(b" set_prm"),
-        Content::ChkCfg => text(b" chk_cfg"),
+        Content::DataExchange => text(rt, b" data_exchange"),
+        Content::Dpv1Call(_) => text(rt, b" dpv1"),
+        Content::Dpv1Answer(_) => text(rt, b" dpv1"),
+        Content::ExtUserPrm => text(rt, b" ext_user_prm"),
+        Content::SetSlaveAdr(_) => text(rt, b" set_slave_adr"),
+        Content::RdInp => text(rt, b" rd_inp"),
+        Content::RdOutp => text(rt, b" rd_outp"),
+        Content::GlobalControl(_) => text(rt, b" global_control"),
+        Content::GetCfg => text(rt, b" get_cfg"),
+        Content::SlaveDiagCall => text(rt, b" slave_diag"),
+        Content::SlaveDiag(_) => text(rt, b" slave_diag"),
+        Content::SetPrm(_) => text(rt, b" set_prm"),
+        Content::ChkCfg => text(rt, b" chk_cfg"),
     }
 }
 
-fn way_word(way: Way) {
+fn way_word(rt: &impl Print, way: Way) -> io::Result<()> {
     match way {
-        Way::Call => text(b" call"),
-        Way::Answer => text(b" answer"),
+        Way::Call => text(rt, b" call"),
+        Way::Answer => text(rt, b" answer"),
     }
 }
 
-fn content_words(content: Content) {
+fn content_words(rt: &impl Print, content: Content) -> io::Result<()> {
     match content {
-        Content::DataExchange => {}
-        Content::Dpv1Call(call) => call_words(call),
-        Content::Dpv1Answer(answer) => answer_words(answer),
-        Content::ExtUserPrm => {}
-        Content::SetSlaveAdr(change) => change_words(change),
-        Content::RdInp => {}
-        Content::RdOutp => {}
-        Content::GlobalControl(command) => command_words(command),
-        Content::GetCfg => {}
-        Content::SlaveDiagCall => {}
-        Content::SlaveDiag(header) => header_words(header),
-        Content::SetPrm(fields) => parameter_words(fields),
-        Content::ChkCfg => {}
+        Content::DataExchange => Ok(()),
+        Content::Dpv1Call(call) => call_words(rt, call),
+        Content::Dpv1Answer(answer) => answer_words(rt, answer),
+        Content::ExtUserPrm => Ok(()),
+        Content::SetSlaveAdr(change) => change_words(rt, change),
+        Content::RdInp => Ok(()),
+        Content::RdOutp => Ok(()),
+        Content::GlobalControl(command) => command_words(rt, command),
+        Content::GetCfg => Ok(()),
+        Content::SlaveDiagCall => Ok(()),
+        Content::SlaveDiag(header) => header_words(rt, header),
+        Content::SetPrm(fields) => parameter_words(rt, fields),
+        Content::ChkCfg => Ok(()),
     }
 }
 
-pub(crate) fn service_line(bytes: &[u8], mode: Mode, out: &mut [u8]) {
+pub(crate) fn service_line(
+    rt: &impl Print,
+    bytes: &[u8],
+    mode: Mode,
+    out: &mut [u8],
+) -> io::Result<()> {
     match service_reader::read(bytes, mode) {
         Reading::Refused(refusal) => {
-            refused(refusal);
-            text(b"\n");
+            refused(rt, refusal)?;
+            text(rt, b"\n")
         }
         Reading::Service {
             format,
@@ -68,18 +74,18 @@ pub(crate) fn service_line(bytes: &[u8], mode: Mode, out: &mut [u8]) {
             start,
             len,
         } => {
-            text(b"0");
-            name_word(content);
-            way_word(way);
-            head_fields(kind_of(format), header);
-            content_words(content);
-            place(start, len);
+            text(rt, b"0")?;
+            name_word(rt, content)?;
+            way_word(rt, way)?;
+            head_fields(rt, kind_of(format), header)?;
+            content_words(rt, content)?;
+            place(rt, start, len)?;
             let part = octets::part(bytes, start, len);
             let written = service_writer::write(
                 format, header.da, header.sa, header.fc, content, part, out,
             );
-            again(written, out);
-            text(b"\n");
+            again(rt, written, out)?;
+            text(rt, b"\n")
         }
     }
 }

@@ -14,8 +14,9 @@ use crate::parameters_line::{dpv0_fields, dpv1_fields, parameters_line};
 use crate::service_line::service_line;
 use crate::typed_line::{typed_fields, typed_line};
 use octets::Mode;
+use std::io;
 
-#[derive(Drop)]
+#[derive(Clone, Copy)]
 pub(crate) enum Subject {
     Telegram,
     Diagnosis,
@@ -36,7 +37,7 @@ pub(crate) enum Subject {
     Fields(Writer),
 }
 
-#[derive(Drop)]
+#[derive(Clone, Copy)]
 pub(crate) enum Writer {
     Diagnosis,
     Device,
@@ -105,59 +106,68 @@ pub(crate) fn fields_of(letter: u8) -> Named {
     Named::Is(Subject::Fields(writer))
 }
 
-fn written(writer: Writer, fields: &[u8], out: &mut [u8]) {
+fn written(rt: &impl Print, writer: Writer, fields: &[u8], out: &mut [u8]) -> io::Result<()> {
     match writer {
-        Writer::Diagnosis => diagnosis_fields(fields, out),
-        Writer::Device => device_fields(fields, out),
-        Writer::Map => map_fields(fields, out),
-        Writer::Channel => channel_fields(fields, out),
-        Writer::Parameters => dpv0_fields(fields, out),
-        Writer::Dpv1Parameters => dpv1_fields(fields, out),
-        Writer::Module => module_fields(fields, out),
-        Writer::Configuration => configuration_fields(fields, out),
-        Writer::AddressChange => address_fields(fields, out),
-        Writer::GlobalCommand => command_fields(fields, out),
-        Writer::AcyclicCall => call_fields(fields, out),
-        Writer::AcyclicAnswer => answer_fields(fields, out),
-        Writer::TypedValue => typed_fields(fields, out),
-        Writer::Book => book_fields(fields, out),
+        Writer::Diagnosis => diagnosis_fields(rt, fields, out),
+        Writer::Device => device_fields(rt, fields, out),
+        Writer::Map => map_fields(rt, fields, out),
+        Writer::Channel => channel_fields(rt, fields, out),
+        Writer::Parameters => dpv0_fields(rt, fields, out),
+        Writer::Dpv1Parameters => dpv1_fields(rt, fields, out),
+        Writer::Module => module_fields(rt, fields, out),
+        Writer::Configuration => configuration_fields(rt, fields, out),
+        Writer::AddressChange => address_fields(rt, fields, out),
+        Writer::GlobalCommand => command_fields(rt, fields, out),
+        Writer::AcyclicCall => call_fields(rt, fields, out),
+        Writer::AcyclicAnswer => answer_fields(rt, fields, out),
+        Writer::TypedValue => typed_fields(rt, fields, out),
+        Writer::Book => book_fields(rt, fields, out),
     }
 }
 
-fn written_within(room: u8, writer: Writer, fields: &[u8], out: &mut [u8]) {
+fn written_within(
+    rt: &impl Print,
+    room: u8,
+    writer: Writer,
+    fields: &[u8],
+    out: &mut [u8],
+) -> io::Result<()> {
     let n = room as usize;
     if out.len() < n {
-        malformed();
-        return;
+        return malformed(rt);
     }
-    written(writer, fields, &mut out[..n]);
+    written(rt, writer, fields, &mut out[..n])
 }
 
-fn fields_line(writer: Writer, bytes: &[u8], out: &mut [u8]) {
+fn fields_line(rt: &impl Print, writer: Writer, bytes: &[u8], out: &mut [u8]) -> io::Result<()> {
     if bytes.len() < 1 {
-        malformed();
-        return;
+        return malformed(rt);
     }
-    written_within(bytes[0], writer, behind(bytes, 1), out);
+    written_within(rt, bytes[0], writer, behind(bytes, 1), out)
 }
 
 // Writing goes to out.
-pub(crate) fn answer_to(subject: Subject, bytes: &[u8], out: &mut [u8]) {
+pub(crate) fn answer_to(
+    rt: &impl Print,
+    subject: Subject,
+    bytes: &[u8],
+    out: &mut [u8],
+) -> io::Result<()> {
     match subject {
-        Subject::Telegram => answer::telegram(bytes),
-        Subject::Diagnosis => diagnosis_line(bytes, out),
-        Subject::Parameters => parameters_line(bytes, Mode::Dpv0, out),
-        Subject::Dpv1Parameters => parameters_line(bytes, Mode::Dpv1, out),
-        Subject::Configuration => configuration_line(bytes, out),
-        Subject::AddressChange => address_line(bytes, out),
-        Subject::GlobalCommand => command_line(bytes, out),
-        Subject::AcyclicCall => call_line(bytes, out),
-        Subject::AcyclicAnswer => answer_line(bytes, out),
-        Subject::TypedValue => typed_line(bytes, out),
-        Subject::Book => book_line(bytes, out),
-        Subject::Service => service_line(bytes, Mode::Dpv0, out),
-        Subject::Dpv1Service => service_line(bytes, Mode::Dpv1, out),
-        Subject::Download => download_line(bytes),
-        Subject::Fields(writer) => fields_line(writer, bytes, out),
+        Subject::Telegram => answer::telegram(rt, bytes),
+        Subject::Diagnosis => diagnosis_line(rt, bytes, out),
+        Subject::Parameters => parameters_line(rt, bytes, Mode::Dpv0, out),
+        Subject::Dpv1Parameters => parameters_line(rt, bytes, Mode::Dpv1, out),
+        Subject::Configuration => configuration_line(rt, bytes, out),
+        Subject::AddressChange => address_line(rt, bytes, out),
+        Subject::GlobalCommand => command_line(rt, bytes, out),
+        Subject::AcyclicCall => call_line(rt, bytes, out),
+        Subject::AcyclicAnswer => answer_line(rt, bytes, out),
+        Subject::TypedValue => typed_line(rt, bytes, out),
+        Subject::Book => book_line(rt, bytes, out),
+        Subject::Service => service_line(rt, bytes, Mode::Dpv0, out),
+        Subject::Dpv1Service => service_line(rt, bytes, Mode::Dpv1, out),
+        Subject::Download => download_line(rt, bytes),
+        Subject::Fields(writer) => fields_line(rt, writer, bytes, out),
     }
 }

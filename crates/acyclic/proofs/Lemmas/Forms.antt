@@ -10,9 +10,9 @@ use Rattle.octets.specs.Front.{fine, fault}
 use Rattle.octets.proofs.Fixed.{passed}
 use Rattle.acyclic.specs.Numbers.{idle_number}
 use Rattle.acyclic.specs.Forms.{alone_of, counted_of, counted_as_of, four, by_number, where_allowed}
-use Rattle.acyclic.specs.Lemmas.Forms.{read}
 
 -- ---- the count
+
 pub no_bytes : (l : List ℕ) → length l ≤ 0 → l ≡ []
 no_bytes [] h = refl
 no_bytes (x ∷ xs) h = absurd (omega arith)
@@ -41,8 +41,12 @@ unfolding counted_as_of
 counted_itself least count = simp (eq-eqb count count refl)
 
 -- ---- from the fields
+
 module _ {A : Type 0} (refuse : ℕ → A) (none : A) (allowed : ℕ → Bool) (idle : ℕ → A) (four_bytes : (n a b l count : ℕ) → A) where
-  pub read_four : (n a b l : ℕ) (part : List ℕ) → allowed n ≡ true → eqb n idle_number ≡ false → read refuse none allowed idle four_bytes (four n a b l ++ part) ≡ four_bytes n a b l (length part)
+  abbrev read : List ℕ → A
+  read s = where_allowed refuse none allowed (by_number refuse idle four_bytes s) s
+
+  pub read_four : (n a b l : ℕ) (part : List ℕ) → allowed n ≡ true → eqb n idle_number ≡ false → read (four n a b l ++ part) ≡ four_bytes n a b l (length part)
   unfolding by_number where_allowed
   read_four n a b l part good other =
       let s = four n a b l ++ part in
@@ -51,7 +55,7 @@ module _ {A : Type 0} (refuse : ℕ → A) (none : A) (allowed : ℕ → Bool) (
       let c : length s - 4 ≡ length part = omega (arith, length-append (four n a b l) part) in
       simp (ne_eqb _ _ z, ap not good, other, le-ltb _ _ h, c)
 
-  pub read_idle : (part : List ℕ) → allowed idle_number ≡ true → read refuse none allowed idle four_bytes (idle_number ∷ part) ≡ idle (length part)
+  pub read_idle : (part : List ℕ) → allowed idle_number ≡ true → read (idle_number ∷ part) ≡ idle (length part)
   unfolding by_number where_allowed
   read_idle part good =
       let s = idle_number ∷ part in

@@ -1,0 +1,10 @@
+-- `diagnosis_writer::writing::put_diagnosis` meets its contract. Two stores: the blocks behind the header.
+use Rattle.octets.specs.Front.{both_stored}
+use Rattle.diagnosis_writer.proofs.writing.put_diagnosis.Goals as goal
+
+pub returns : goal.returns
+returns c =
+    let s = c.store_behind.ensures in
+    let p = c in
+    let b = p in
+    both_stored p.put_header-n.ensures b.args.blocks.now s.count s.bytes b.requires

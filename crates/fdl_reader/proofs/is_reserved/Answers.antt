@@ -1,0 +1,20 @@
+-- `fdl_reader::is_reserved` meets its contract: each class has its line.
+use Rattle.fdl_reader.proofs.is_reserved.Goals as goal
+
+pub returns-in-Opening : goal.returns-in-Opening
+returns-in-Opening c = simp c.in-Opening.is
+
+pub returns-in-Counted : goal.returns-in-Counted
+returns-in-Counted c = simp c.in-Counted.is
+
+pub returns-in-Uncounted : goal.returns-in-Uncounted
+returns-in-Uncounted c = simp c.in-Uncounted.is
+
+pub returns-in-Bare : goal.returns-in-Bare
+returns-in-Bare c = simp c.in-Bare.is
+
+pub returns-in-Data : goal.returns-in-Data
+returns-in-Data c = simp c.in-Data.is
+
+pub returns-in-Reserved : goal.returns-in-Reserved
+returns-in-Reserved c = simp c.in-Reserved.is
