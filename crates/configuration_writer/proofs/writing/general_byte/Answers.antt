@@ -4,7 +4,7 @@ use mathlib.Core.Bool.{true}
 use Prim.Native.Nat.{◌≤◌}
 use native.Mathlib.Omega.{arith}
 use Rattle.configuration.specs.Writing.{good_side, side_byte, either_side}
-use Rattle.configuration.specs.Lemmas.Sides.{present_small, side_byte_small, either_good, wider}
+use Rattle.configuration.proofs.Lemmas.Sides.{present_small, side_byte_small, either_good, wider}
 use Rattle.configuration_writer.proofs.writing.general_byte.Goals as goal
 
 pub overflow_mul-result : goal.overflow_mul-result

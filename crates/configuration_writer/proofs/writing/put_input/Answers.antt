@@ -1,5 +1,5 @@
 -- `configuration_writer::writing::put_input` meets its contract. Two stores: the vendor bytes behind the length byte.
-use Rattle.octets.specs.Front.{first_fits, both_stored}
+use Rattle.octets.proofs.Front.{first_fits, both_stored}
 use Rattle.configuration.specs.Writing.{side_bytes}
 use Rattle.configuration_writer.proofs.writing.put_input.Goals as goal
 

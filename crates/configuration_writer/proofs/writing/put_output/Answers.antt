@@ -2,7 +2,7 @@
 use mathlib.Core.List.{List, ◌++◌}
 use Prim.Native.Nat.{ℕ}
 use native.Mathlib.Omega.{arith}
-use Rattle.octets.specs.Front.{first_fits, within, rest_fits, both}
+use Rattle.octets.proofs.Front.{first_fits, within, rest_fits, both}
 use Rattle.configuration.specs.Writing.{side_bytes}
 use Rattle.configuration_writer.proofs.writing.put_output.Goals as goal
 

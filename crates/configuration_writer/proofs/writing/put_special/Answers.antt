@@ -4,9 +4,10 @@ use mathlib.Core.List.{List, [], ◌∷◌, ◌++◌}
 use Prim.Native.Nat.{ℕ, ◌+◌, ◌*◌, ◌≤◌}
 use native.Mathlib.Omega.{arith}
 use lib.ListN.{length, set, length-append, length-drop}
-use Rattle.octets.specs.Front.{AtFront, stores, first_fits, within, rest_fits, both}
+use Rattle.octets.specs.Front.{AtFront}
+use Rattle.octets.proofs.Front.{stores, first_fits, within, rest_fits, both}
 use Rattle.configuration.specs.Writing.{side_bytes, special_bytes}
-use Rattle.configuration.specs.Lemmas.Sides.{present_small}
+use Rattle.configuration.proofs.Lemmas.Sides.{present_small}
 use Rattle.configuration_writer.proofs.writing.put_special.Goals as goal
 
 pub overflow_mul-out : goal.overflow_mul-out

@@ -6,7 +6,7 @@ use mir.Val.{bool_byte}
 use native.Mathlib.Omega.{arith}
 use borrow.Author.Rules.{rules}
 use Rattle.configuration.specs.Writing.{bit, good_side}
-use Rattle.configuration.specs.Lemmas.Sides.{bit_small, Units, units}
+use Rattle.configuration.proofs.Lemmas.Sides.{bit_small, Units, units}
 use Rattle.configuration_writer.proofs.writing.side_byte.Goals as goal
 
 -- a flag as a number

@@ -1,6 +1,7 @@
 -- `configuration_writer::writing::write` meets its contract. Reading gives the verdict, and the bytes are stored as they are.
 use mathlib.Core.Path.{◌≡◌, sym, ap}
-use Rattle.octets.specs.Front.{fine, at_front, refused, too_small, stored}
+use Rattle.octets.specs.Front.{fine}
+use Rattle.octets.proofs.Front.{at_front, refused, too_small, stored}
 use Rattle.configuration.specs.Writing.{verdict_in, verdict_of}
 use Rattle.configuration_writer.proofs.writing.write.Goals as goal
 

@@ -4,7 +4,8 @@ use mathlib.Core.Bool.{true}
 use mathlib.Core.List.{List, [], ◌∷◌}
 use Prim.Native.Nat.{ℕ}
 use borrow.Author.Tests.{lt-ltb, le-ltb}
-use Rattle.octets.specs.Front.{fine, stores, refused, too_small, stored}
+use Rattle.octets.specs.Front.{fine}
+use Rattle.octets.proofs.Front.{stores, refused, too_small, stored}
 use Rattle.configuration.specs.Writing.{good_general, general_byte, general_verdict}
 use Rattle.configuration_writer.proofs.writing.write_general.Goals as goal
 

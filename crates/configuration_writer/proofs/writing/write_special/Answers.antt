@@ -6,9 +6,10 @@ use Prim.Native.Nat.{ℕ, ◌+◌}
 use native.Mathlib.Omega.{arith}
 use lib.ListN.{length}
 use borrow.Author.Tests.{lt-ltb, le-ltb, eq-eqb, ne_eqb}
-use Rattle.octets.specs.Front.{fine, refused, too_small, stored}
+use Rattle.octets.specs.Front.{fine}
+use Rattle.octets.proofs.Front.{refused, too_small, stored}
 use Rattle.configuration.specs.Writing.{good_side, special_bytes, special_verdict}
-use Rattle.configuration.specs.Lemmas.Sides.{present_small, special_length_lem}
+use Rattle.configuration.proofs.Lemmas.Sides.{present_small, special_length_lem}
 use Rattle.configuration_writer.proofs.writing.write_special.Goals as goal
 
 pub returns-then-vendor-gt15 : goal.returns-then-vendor-gt15
