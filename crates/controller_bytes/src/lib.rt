@@ -1,6 +1,7 @@
 // What is set for a download, what its controller remembers, and how it stands, as bytes in the layout of the C
 // interface (include/rabtunex.h).
 #![tactic(auto)]
+
 mod ending;
 mod state;
 

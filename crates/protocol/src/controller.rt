@@ -2,7 +2,7 @@
 // its step answers. Templates are counted from 1.
 
 // The addresses of both ends; R, how often a request is sent again; P, how often a result is asked for.
-#[derive(Drop)]
+#[derive(Clone, Copy)]
 pub struct Settings {
     pub printer: u8,
     pub controller: u8,
@@ -12,7 +12,7 @@ pub struct Settings {
 
 // What a request is for: to write a template, or to poll for its result, with so many polls left
 // after this one.
-#[derive(Drop)]
+#[derive(Clone, Copy)]
 pub enum Job {
     Write,
     Poll { left: u8 },
@@ -20,7 +20,7 @@ pub enum Job {
 
 // The request that was sent last: none; the opening; or a job for a template, with its FCB and how
 // often it may be sent again.
-#[derive(Drop)]
+#[derive(Clone, Copy)]
 pub enum Controller {
     Fresh,
     Opening,

@@ -9,27 +9,18 @@ use Rattle.protocol.specs.declared.controller.Settings.{Settings}
 use Rattle.protocol.specs.declared.controller.Job.{Job}
 use Rattle.protocol.specs.declared.controller.Job.TheVariants.{Poll}
 use borrow.Author.Rules.{rules}
-use Rattle.controller_state.proofs.verdicts.requests_before.Statement.{statement}
-use Rattle.controller_state.proofs.verdicts.requests_before.Tie as tie
+use Rattle.controller_state.proofs.verdicts.requests_before.Goals as goal
 
 -- the polls left are some of those set
 within : (c : Settings) {j : Job} {left : ℕ} → j ≡ Poll left → too_many_polls c j ≡ false → left ≤ c.polls
 within c {j} {left} e h = omega (arith, ltb-true left c.polls (not-false _ (rw e at h)))
 
-enum_told : tie.Need-enum-told
-enum_told c = search rules
+pub overflow_sub-result : goal.overflow_sub-result
+overflow_sub-result c =
+    omega (arith, within c.args.settings c.in-Poll.is c.requires)
 
-enum-known-job : tie.Need-enum-known-job
-enum-known-job c = search rules
+pub returns-in-Write : goal.returns-in-Write
+returns-in-Write c = search rules
 
-sub-result : tie.Need-overflow-sub-result
-sub-result c = omega (arith, within c.before.before.before.before.args.settings c.before.before.job.given.1 c.before.before.before.before.requires)
-
-returns : tie.Need-returns
-returns c = search rules
-
-returns-2 : tie.Need-returns-2
-returns-2 c = simp c.before.before.job.given.1
-
-pub requests-before-spec : {M : Type 1} → statement M
-requests-before-spec = tie.close (tie.spec enum_told enum-known-job sub-result returns returns-2)
+pub returns-in-Poll : goal.returns-in-Poll
+returns-in-Poll c = simp c.in-Poll.is
