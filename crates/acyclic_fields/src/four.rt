@@ -70,6 +70,7 @@ pub enum Case {
 
 // What the number and the three fields behind it name in a call. Fields that the call does not have
 // are not looked at.
+#[tactic(auto, unfolding(crate::specs::Four::call_named))]
 pub fn call_named(number: u8, slot: u8, index: u8, last: u8) -> Case
     ensures { result ≡ call_named number slot index last }
 {
@@ -109,6 +110,7 @@ fn negative_named(number: u8, decode: u8, code1: u8, code2: u8) -> Case
 }
 
 // What the number and the three fields behind it name in an answer.
+#[tactic(auto, unfolding(crate::specs::Four::answer_named))]
 pub fn answer_named(number: u8, slot: u8, index: u8, last: u8) -> Case
     ensures { result ≡ answer_named number slot index last }
 {

@@ -1,5 +1,6 @@
 // Calls and answers of DPV1 through the C interface, by the same six fields for reading and writing.
 #![tactic(auto)]
+
 ghost use Rattle.std.specs.Prelude.{◌≡◌, length};
 ghost use Rattle.acyclic.specs.Calls.{read_call_of};
 ghost use Rattle.acyclic.specs.Answers.{read_answer_of};

@@ -1,5 +1,6 @@
 // Template books through the C interface: how many templates one has, each template, and writing.
 #![tactic(auto)]
+
 ghost use Rattle.std.specs.Prelude.{◌≡◌, length};
 ghost use Rattle.book.specs.Reading.{read_of};
 ghost use Rattle.book.specs.Template.{template_of};

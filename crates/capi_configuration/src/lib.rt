@@ -1,5 +1,6 @@
 // Configuration through the C interface: the offsets of its modules, and its totals.
 #![tactic(auto)]
+
 ghost use Rattle.std.specs.Prelude.{◌≡◌};
 ghost use Rattle.capi_configuration.specs.Configuration.{offsets_of, refusal_of, totals_after, inputs_after, outputs_after};
 

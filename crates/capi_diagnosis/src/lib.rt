@@ -1,5 +1,6 @@
 // Diagnosis through the C interface: its header, and its blocks one at a time.
 #![tactic(auto)]
+
 ghost use Rattle.std.specs.Prelude.{◌≡◌};
 ghost use Rattle.diagnosis.specs.Map.{lowest_number};
 ghost use Rattle.diagnosis.specs.Reading.{read_of};

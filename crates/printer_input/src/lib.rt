@@ -1,6 +1,7 @@
 // What a telegram is to the printer (document 01, "Printer rules"): one case for each rule, and what a call
 // asks for. The telegram is read once, also where it carries a service, and its class is looked up once.
 #![tactic(auto)]
+
 ghost use Rattle.std.specs.Prelude.{◌≡◌, ◌+◌, ◌≤◌};
 ghost use Rattle.function_code.specs.Code.{class_of};
 ghost use Rattle.fdl.specs.Reading.{read_of};

@@ -56,7 +56,7 @@ fn read_full(input: &mut impl Read, buf: &mut [u8]) -> io::Result<usize>
     Ok(done)
 }
 
-// A reading depends on the first 256 bytes alone (theorem first-256-bytes of the crate fdl), so no
+// A reading depends on the first 256 bytes alone (theorem first_256_bytes of the crate fdl), so no
 // more are read, however many come.
 fn main(rt: HostRuntime) -> io::Result<()> {
     let mut buffer = [0u8; 256];

@@ -11,7 +11,7 @@ use octets::Mode;
 use service::{Reading, Way};
 use std::io;
 
-fn service_name(rt: &impl Print, content: Content) -> io::Result<()> {
+fn service_name(rt: &impl Print, content: &Content) -> io::Result<()> {
     match content {
         Content::DataExchange => text(rt, b"Data_Exchange"),
         Content::Dpv1Call(_) => text(rt, b"DPV1"),
@@ -29,7 +29,7 @@ fn service_name(rt: &impl Print, content: Content) -> io::Result<()> {
     }
 }
 
-fn service_line(rt: &impl Print, content: Content, way: Way) -> io::Result<()> {
+fn service_line(rt: &impl Print, content: &Content, way: &Way) -> io::Result<()> {
     text(rt, b"service ")?;
     service_name(rt, content)?;
     match way {
@@ -102,7 +102,7 @@ pub(crate) fn service_lines(rt: &impl Print, bytes: &[u8], user: &[u8]) -> io::R
             start,
             len,
         } => {
-            service_line(rt, content, way)?;
+            service_line(rt, &content, &way)?;
             content_lines(rt, content, way, user, octets::part(bytes, start, len))
         }
         Reading::Refused(refusal) => refused_line(rt, refusal.number),

@@ -122,15 +122,14 @@ fn sendings(
         printer,
     };
     while sent < SENDINGS_MOST {
-        let action = now.action;
-        let printer = now.printer;
         let Action::Send {
             controller,
             request: count,
-        } = action
+        } = now.action
         else {
             break;
         };
+        let printer = now.printer;
         let entry = entry_after(sent, line);
         sent += 1;
         now = turn(

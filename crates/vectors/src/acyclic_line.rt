@@ -16,7 +16,7 @@ fn three(rt: &impl Print, first: u8, second: u8, third: u8) -> io::Result<()> {
     byte_field(rt, third)
 }
 
-pub(crate) fn call_words(rt: &impl Print, call: Call) -> io::Result<()> {
+pub(crate) fn call_words(rt: &impl Print, call: &Call) -> io::Result<()> {
     match call {
         Call::Poll => text(rt, b" poll"),
         Call::Read {
@@ -25,11 +25,11 @@ pub(crate) fn call_words(rt: &impl Print, call: Call) -> io::Result<()> {
             length,
         } => {
             text(rt, b" read")?;
-            three(rt, slot, index, length)
+            three(rt, *slot, *index, *length)
         }
         Call::Write { slot, index } => {
             text(rt, b" write")?;
-            two(rt, slot, index)
+            two(rt, *slot, *index)
         }
         Call::AlarmAck {
             slot,
@@ -37,18 +37,18 @@ pub(crate) fn call_words(rt: &impl Print, call: Call) -> io::Result<()> {
             specifier,
         } => {
             text(rt, b" alarm")?;
-            three(rt, slot, alarm, specifier)
+            three(rt, *slot, *alarm, *specifier)
         }
         Call::Idle => text(rt, b" idle"),
         Call::Transport { slot, index } => {
             text(rt, b" transport")?;
-            two(rt, slot, index)
+            two(rt, *slot, *index)
         }
     }
 }
 
 // Where the data stand, in a call that can have them.
-fn call_place(rt: &impl Print, call: Call, start: usize, len: usize) -> io::Result<()> {
+fn call_place(rt: &impl Print, call: &Call, start: usize, len: usize) -> io::Result<()> {
     match call {
         Call::Poll => Ok(()),
         Call::Read {
@@ -75,8 +75,8 @@ pub(crate) fn call_line(rt: &impl Print, bytes: &[u8], out: &mut [u8]) -> io::Re
         }
         CallReading::Call { call, start, len } => {
             text(rt, b"0")?;
-            call_words(rt, call)?;
-            call_place(rt, call, start, len)?;
+            call_words(rt, &call)?;
+            call_place(rt, &call, start, len)?;
             let written = acyclic_writer::write_call(call, octets::part(bytes, start, len), out);
             again(rt, written, out)?;
             text(rt, b"\n")
@@ -84,7 +84,7 @@ pub(crate) fn call_line(rt: &impl Print, bytes: &[u8], out: &mut [u8]) -> io::Re
     }
 }
 
-fn number_of(function: Function) -> u8 {
+fn number_of(function: &Function) -> u8 {
     match function {
         Function::Read => 0x5E,
         Function::Write => 0x5F,
@@ -93,11 +93,11 @@ fn number_of(function: Function) -> u8 {
     }
 }
 
-pub(crate) fn answer_words(rt: &impl Print, answer: Answer) -> io::Result<()> {
+pub(crate) fn answer_words(rt: &impl Print, answer: &Answer) -> io::Result<()> {
     match answer {
         Answer::Read { slot, index } => {
             text(rt, b" read")?;
-            two(rt, slot, index)
+            two(rt, *slot, *index)
         }
         Answer::Write {
             slot,
@@ -105,7 +105,7 @@ pub(crate) fn answer_words(rt: &impl Print, answer: Answer) -> io::Result<()> {
             length,
         } => {
             text(rt, b" write")?;
-            three(rt, slot, index, length)
+            three(rt, *slot, *index, *length)
         }
         Answer::AlarmAck {
             slot,
@@ -113,12 +113,12 @@ pub(crate) fn answer_words(rt: &impl Print, answer: Answer) -> io::Result<()> {
             specifier,
         } => {
             text(rt, b" alarm")?;
-            three(rt, slot, alarm, specifier)
+            three(rt, *slot, *alarm, *specifier)
         }
         Answer::Idle => text(rt, b" idle"),
         Answer::Transport { slot, index } => {
             text(rt, b" transport")?;
-            two(rt, slot, index)
+            two(rt, *slot, *index)
         }
         Answer::Negative {
             function,
@@ -128,13 +128,13 @@ pub(crate) fn answer_words(rt: &impl Print, answer: Answer) -> io::Result<()> {
         } => {
             text(rt, b" negative")?;
             byte_field(rt, number_of(function))?;
-            three(rt, decode, code1, code2)
+            three(rt, *decode, *code1, *code2)
         }
     }
 }
 
 // Where the data stand, in an answer that can have them.
-fn answer_place(rt: &impl Print, answer: Answer, start: usize, len: usize) -> io::Result<()> {
+fn answer_place(rt: &impl Print, answer: &Answer, start: usize, len: usize) -> io::Result<()> {
     match answer {
         Answer::Read { slot: _, index: _ } => place(rt, start, len),
         Answer::Write {
@@ -166,8 +166,8 @@ pub(crate) fn answer_line(rt: &impl Print, bytes: &[u8], out: &mut [u8]) -> io::
         }
         AnswerReading::Answer { answer, start, len } => {
             text(rt, b"0")?;
-            answer_words(rt, answer)?;
-            answer_place(rt, answer, start, len)?;
+            answer_words(rt, &answer)?;
+            answer_place(rt, &answer, start, len)?;
             let written = acyclic_writer::write_answer(
                 answer,
                 octets::part(bytes, start, len),

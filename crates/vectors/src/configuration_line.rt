@@ -1,8 +1,8 @@
 // The answer to a configuration: its totals, the offsets of its modules, and each module with the
 // bytes that writing makes of it again. The answers to a module's fields and to a configuration's bytes.
 use crate::answer::malformed;
-use crate::outcome::{again, behind, refused, stored, walk_refused};
-use crate::text::{byte_field, field, flag_field, place, text, word_field};
+use crate::outcome::{again, behind, stored, walk_refused};
+use crate::text::{byte_field, decimal, field, flag_field, place, text, word_field};
 use std::io;
 
 fn side(rt: &impl Print, side: configuration::Side) -> io::Result<()> {
@@ -96,18 +96,18 @@ fn totals(rt: &impl Print, bytes: &[u8]) -> io::Result<configuration::Reading> {
     let mut inputs = [0u16; 244];
     let mut outputs = [0u16; 244];
     let reading = configuration_reader::offsets(bytes, &mut inputs, &mut outputs);
-    match reading {
-        configuration::Reading::Refused(refusal) => refused(rt, refusal)?,
+    match &reading {
+        configuration::Reading::Refused(refusal) => decimal(rt, refusal.number as usize)?,
         configuration::Reading::Configuration {
             modules: count,
             inputs: input,
             outputs: output,
         } => {
             text(rt, b"0")?;
-            field(rt, count)?;
-            field(rt, input)?;
-            field(rt, output)?;
-            offset_fields(rt, count, &inputs, &outputs)?;
+            field(rt, *count)?;
+            field(rt, *input)?;
+            field(rt, *output)?;
+            offset_fields(rt, *count, &inputs, &outputs)?;
         }
     }
     Ok(reading)

@@ -6,7 +6,7 @@ use std::io;
 
 pub(crate) fn change_words(
     rt: &impl Print,
-    change: address_change::AddressChange,
+    change: &address_change::AddressChange,
 ) -> io::Result<()> {
     byte_field(rt, change.address)?;
     word_field(rt, change.ident)?;
@@ -21,7 +21,7 @@ pub(crate) fn address_line(rt: &impl Print, bytes: &[u8], out: &mut [u8]) -> io:
         }
         address_change::AddressReading::Change { fields, start, len } => {
             text(rt, b"0")?;
-            change_words(rt, fields)?;
+            change_words(rt, &fields)?;
             place(rt, start, len)?;
             let written = address_change::write_address_change(
                 fields,
@@ -34,7 +34,7 @@ pub(crate) fn address_line(rt: &impl Print, bytes: &[u8], out: &mut [u8]) -> io:
     }
 }
 
-pub(crate) fn command_words(rt: &impl Print, command: control::GlobalCommand) -> io::Result<()> {
+pub(crate) fn command_words(rt: &impl Print, command: &control::GlobalCommand) -> io::Result<()> {
     byte_field(rt, command.command)?;
     byte_field(rt, command.groups)
 }
@@ -47,7 +47,7 @@ pub(crate) fn command_line(rt: &impl Print, bytes: &[u8], out: &mut [u8]) -> io:
         }
         control::CommandReading::Command { fields, start, len } => {
             text(rt, b"0")?;
-            command_words(rt, fields)?;
+            command_words(rt, &fields)?;
             place(rt, start, len)?;
             let written = control::write_global_command(
                 fields,

@@ -77,7 +77,7 @@ fn first_digit(byte: u8) -> Place {
 }
 
 // Bytes past the end of the buffer are dropped. That changes no answer: a reading of a telegram
-// depends on the first 256 bytes alone (theorem first-256-bytes of the crate fdl), no data of a service
+// depends on the first 256 bytes alone (theorem first_256_bytes of the crate fdl), no data of a service
 // has more than 244, no book more than 3,233, a download has at most 518 before its book, and the buffer
 // has 4,096.
 fn second_digit(high: u8, byte: u8, count: usize, bytes: &mut [u8]) -> Digits {

@@ -12,7 +12,7 @@ use octets::Mode;
 use service::{Reading, Way};
 use std::io;
 
-fn name_word(rt: &impl Print, content: Content) -> io::Result<()> {
+fn name_word(rt: &impl Print, content: &Content) -> io::Result<()> {
     match content {
         Content::DataExchange => text(rt, b" data_exchange"),
         Content::Dpv1Call(_) => text(rt, b" dpv1"),
@@ -37,7 +37,7 @@ fn way_word(rt: &impl Print, way: Way) -> io::Result<()> {
     }
 }
 
-fn content_words(rt: &impl Print, content: Content) -> io::Result<()> {
+fn content_words(rt: &impl Print, content: &Content) -> io::Result<()> {
     match content {
         Content::DataExchange => Ok(()),
         Content::Dpv1Call(call) => call_words(rt, call),
@@ -49,8 +49,8 @@ fn content_words(rt: &impl Print, content: Content) -> io::Result<()> {
         Content::GlobalControl(command) => command_words(rt, command),
         Content::GetCfg => Ok(()),
         Content::SlaveDiagCall => Ok(()),
-        Content::SlaveDiag(header) => header_words(rt, header),
-        Content::SetPrm(fields) => parameter_words(rt, fields),
+        Content::SlaveDiag(header) => header_words(rt, *header),
+        Content::SetPrm(fields) => parameter_words(rt, *fields),
         Content::ChkCfg => Ok(()),
     }
 }
@@ -75,10 +75,10 @@ pub(crate) fn service_line(
             len,
         } => {
             text(rt, b"0")?;
-            name_word(rt, content)?;
+            name_word(rt, &content)?;
             way_word(rt, way)?;
             head_fields(rt, kind_of(format), header)?;
-            content_words(rt, content)?;
+            content_words(rt, &content)?;
             place(rt, start, len)?;
             let part = octets::part(bytes, start, len);
             let written = service_writer::write(

@@ -43,43 +43,43 @@ fn float_field(rt: &impl Print, number: f32) -> io::Result<()> {
     }
 }
 
-fn value_words(rt: &impl Print, value: Value) -> io::Result<()> {
+fn value_words(rt: &impl Print, value: &Value) -> io::Result<()> {
     match value {
         Value::Boolean(yes) => {
             text(rt, b" boolean")?;
-            flag_field(rt, yes)
+            flag_field(rt, *yes)
         }
         Value::I8(number) => {
             text(rt, b" i8")?;
-            signed8_field(rt, number)
+            signed8_field(rt, *number)
         }
         Value::I16(number) => {
             text(rt, b" i16")?;
-            signed16_field(rt, number)
+            signed16_field(rt, *number)
         }
         Value::I32(number) => {
             text(rt, b" i32")?;
-            signed32_field(rt, number)
+            signed32_field(rt, *number)
         }
         Value::U8(number) => {
             text(rt, b" u8")?;
-            byte_field(rt, number)
+            byte_field(rt, *number)
         }
         Value::U16(number) => {
             text(rt, b" u16")?;
-            word_field(rt, number)
+            word_field(rt, *number)
         }
         Value::U32(number) => {
             text(rt, b" u32")?;
-            field(rt, number as usize)
+            field(rt, *number as usize)
         }
         Value::Float(number) => {
             text(rt, b" float")?;
-            float_field(rt, number)
+            float_field(rt, *number)
         }
         Value::Nan(bits) => {
             text(rt, b" nan")?;
-            field(rt, bits as usize)
+            field(rt, *bits as usize)
         }
     }
 }
@@ -92,7 +92,7 @@ pub(crate) fn typed_line(rt: &impl Print, bytes: &[u8], out: &mut [u8]) -> io::R
         }
         Reading::Value(value) => {
             text(rt, b"0")?;
-            value_words(rt, value)?;
+            value_words(rt, &value)?;
             let written = typed_writer::write(value, out);
             again(rt, written, out)?;
             text(rt, b"\n")

@@ -8,7 +8,7 @@ use Rattle.fdl.specs.Reading.{framed_of, read_of, classed_by}
 use Rattle.fdl.specs.declared.telegram.Format.{Format}
 use Rattle.fdl.specs.declared.telegram.Format.TheVariants.{Sd1, Sd2, Sd3}
 use Rattle.fdl_leading.specs.Leading.{place_of, leading_of, Leads}
-use Rattle.fdl_leading.proofs.Leading.{leads}
+use Rattle.fdl_leading.proofs.LeadingLaws.{leads}
 use Rattle.fdl_leading.specs.declared.Leading.{Leading}
 use Rattle.fdl_reader.proofs.read_classed.Goals as goal
 
