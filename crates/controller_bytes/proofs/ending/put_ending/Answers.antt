@@ -1,5 +1,4 @@
 -- `controller_bytes::ending::put_ending` meets its contract.
-use borrow.Author.Rules.{rules}
 use Rattle.controller_bytes.proofs.ending.put_ending.Goals as goal
 
 pub returns-in-Done : goal.returns-in-Done

@@ -1,7 +1,8 @@
 -- `controller_bytes::state::controller_in` meets its contract.
 use borrow.Author.Tests.{ne_eqb}
 use Rattle.controller_bytes.specs.State.{controller_in}
-use borrow.Author.Rules.{rules}
+use Rattle.std.proofs.lemmas.Grind.{common_steps}
+use Rattle.std.proofs.Common.{arith}
 use Rattle.controller_bytes.proofs.state.controller_in.Goals as goal
 
 pub returns-in-0 : goal.returns-in-0
@@ -22,5 +23,4 @@ returns-in-3 c = simp c.in-3.is c.asking_by-in-3.ensures
 
 pub returns-in_default : goal.returns-in_default
 unfolding controller_in
-returns-in_default c =
-    let r = c.in_default-own.rest in simp (ne_eqb _ _ r.1, ne_eqb _ _ r.0.1, ne_eqb _ _ r.0.0.1, ne_eqb _ _ r.0.0.0.1)
+returns-in_default c = grind (arith, common_steps, ne_eqb)

@@ -1,9 +1,8 @@
 -- `controller_state::verdicts::book_usable` meets its contract: an accepted book has as many templates as it says.
-use mathlib.Core.Path.{◌≡◌, sym, ◌∙◌}
+use mathlib.Core.Path.{◌≡◌, sym}
 use Rattle.book.proofs.Laws.{templates_in_order}
 use Rattle.book.specs.Reading.{read_of}
 use Rattle.book.specs.declared.answers.Reading.TheVariants.{Book}
-use borrow.Author.Rules.{rules}
 use Rattle.controller_state.proofs.verdicts.book_usable.Goals as goal
 
 pub returns-in-Refused : goal.returns-in-Refused

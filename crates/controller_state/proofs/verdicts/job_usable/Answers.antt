@@ -3,7 +3,6 @@ use mathlib.Core.Path.{◌≡◌, sym, ◌∙◌}
 use mathlib.Core.Bool.{false}
 use borrow.Author.Tests.{lt-ltb, le-ltb}
 use Rattle.protocol.specs.Controller.{too_many_polls, state_verdict}
-use borrow.Author.Rules.{rules}
 use Rattle.controller_state.proofs.verdicts.job_usable.Goals as goal
 
 pub returns-then-template-lt1 : goal.returns-then-template-lt1

@@ -2,7 +2,6 @@
 use mathlib.Core.Path.{sym, ap, ◌∙◌}
 use Rattle.protocol.specs.Check.{verdict_in}
 use Rattle.protocol.specs.Controller.{verdict_of}
-use borrow.Author.Rules.{rules}
 use Rattle.controller_state.proofs.verdicts.judge.Goals as goal
 
 pub returns-in-Refused : goal.returns-in-Refused

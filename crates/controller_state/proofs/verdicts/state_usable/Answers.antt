@@ -1,6 +1,5 @@
 -- `controller_state::verdicts::state_usable` meets its contract: each state has its line.
 use Rattle.protocol.specs.Controller.{state_verdict}
-use borrow.Author.Rules.{rules}
 use Rattle.controller_state.proofs.verdicts.state_usable.Goals as goal
 
 pub returns-in-Fresh : goal.returns-in-Fresh

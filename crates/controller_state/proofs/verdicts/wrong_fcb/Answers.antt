@@ -2,9 +2,7 @@
 use mathlib.Core.Path.{◌≡◌, sym, ◌∙◌}
 use mathlib.Core.Bool.{true, not-not}
 use lib.Dec.{eqb}
-use borrow.Author.Tests.{not-true, not-false}
 use Rattle.octets.specs.Choice.{◌or◌}
-use borrow.Author.Rules.{rules}
 use Rattle.controller_state.proofs.verdicts.wrong_fcb.Goals as goal
 
 pub returns-then-not-fcb_known : goal.returns-then-not-fcb_known

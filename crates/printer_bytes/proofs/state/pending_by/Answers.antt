@@ -1,6 +1,8 @@
 -- `printer_bytes::state::pending_by` meets its contract.
 use Rattle.printer_bytes.specs.State.{pending_by}
 use borrow.Author.Tests.{ne_eqb}
+use Rattle.std.proofs.lemmas.Grind.{common_steps}
+use Rattle.std.proofs.Common.{arith}
 use Rattle.printer_bytes.proofs.state.pending_by.Goals as goal
 
 pub returns-in-0 : goal.returns-in-0
@@ -17,4 +19,4 @@ returns-in-2 c = simp c.in-2.is
 
 pub returns-in_default : goal.returns-in_default
 unfolding pending_by
-returns-in_default c = let r = c.in_default-own.rest in simp (ne_eqb _ _ r.1, ne_eqb _ _ r.0.1, ne_eqb _ _ r.0.0.1)
+returns-in_default c = grind (arith, common_steps, ne_eqb)

@@ -1,5 +1,4 @@
 -- `printer_bytes::state::pending_bytes` meets its contract.
-use borrow.Author.Rules.{rules}
 use Rattle.printer_bytes.proofs.state.pending_bytes.Goals as goal
 
 pub returns-in-Nothing : goal.returns-in-Nothing

@@ -1,8 +1,7 @@
 -- `printer_bytes::state::printer_in` meets its contract.
-use mathlib.Core.Path.{sym, ap, ◌∙◌}
+use mathlib.Core.Path.{sym, ap}
 use borrow.Author.Tests.{lt-ltb, le-ltb}
 use Rattle.printer_bytes.specs.State.{found, printer_in}
-use borrow.Author.Rules.{rules}
 use Rattle.printer_bytes.proofs.state.printer_in.Goals as goal
 
 pub returns-then-state-gt1 : goal.returns-then-state-gt1

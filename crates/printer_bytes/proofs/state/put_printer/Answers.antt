@@ -1,7 +1,6 @@
 -- `printer_bytes::state::put_printer` meets its contract.
 use Rattle.printer_bytes.specs.State.{around}
 use mathlib.Core.Path.{ap}
-use borrow.Author.Rules.{rules}
 use Rattle.printer_bytes.proofs.state.put_printer.Goals as goal
 
 pub returns : goal.returns
