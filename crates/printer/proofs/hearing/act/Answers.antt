@@ -1,5 +1,4 @@
 -- `printer::hearing::act` meets its contract. The slots, then the reply, then the state.
-use borrow.Author.Rules.{rules}
 use Rattle.printer.specs.Meaning.{slots_of}
 use Rattle.printer.proofs.Heard.{carried}
 use Rattle.printer.proofs.hearing.act.Goals as goal

@@ -2,7 +2,6 @@
 use mathlib.Core.Path.{refl, sym, ap, ◌∙◌}
 use mathlib.Core.List.{List}
 use Prim.Native.Nat.{ℕ}
-use borrow.Author.Rules.{rules}
 use Rattle.protocol.specs.Printer as printer
 use Rattle.protocol.specs.Printer.{perform, new_call, lending, stepped}
 use Rattle.printer_input.specs.Meaning.{ask_in}

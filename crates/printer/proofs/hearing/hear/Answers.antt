@@ -1,58 +1,59 @@
 -- `printer::hearing::hear` meets its contract. One case for each that is received.
-use mathlib.Core.Path.{◌≡◌, ap, ◌∙◌}
-use borrow.Author.Rules.{rules}
-use Rattle.protocol.proofs.MachineLaws.Replies.{Comes}
+use mathlib.Core.Path.{refl, ap, ◌∙◌}
 use Rattle.protocol.specs.Printer as printer
 use Rattle.protocol.specs.Printer.{opening_reply, opened, reply_bytes, saying, heard_by, hear, Station, lending, Stepped, leaving, stepped}
 use Rattle.protocol.specs.declared.printer.Reaction.{Reaction}
-use Rattle.printer_input.specs.Meaning.{received_in}
-use Rattle.printer_input.specs.declared.Received.{Received}
+use Rattle.printer_input.specs.declared.Received.TheVariants as received
 use Rattle.printer.specs.Meaning.{body_in}
 use Rattle.printer.proofs.Heard.{ready, by_received, came, ask_body, sent}
 use Rattle.printer.proofs.hearing.hear.Goals as goal
 
 pub status-requires : goal.status-requires
-status-requires c =
-    (ready c.requires (came_as c c.in-Status.is)).stations
+status-requires c = (ready c.requires (came c.args.printer.address c.args.telegram.now {r = received.Status c.in-Status.sa} c.in-Status.ensures refl)).stations
 
 pub open-requires : goal.open-requires
-open-requires c =
-    ready c.requires (came_as c c.in-Opening.is)
+open-requires c = ready c.requires (came c.args.printer.address c.args.telegram.now {r = received.Opening c.in-Opening.sa c.in-Opening.ask} c.in-Opening.ensures refl)
 
 pub counted-requires : goal.counted-requires
-counted-requires c =
-    ready c.requires (came_as c c.in-Counted.is)
+counted-requires c = ready c.requires (came c.args.printer.address c.args.telegram.now {r = received.Counted c.in-Counted.fcb c.in-Counted.sa c.in-Counted.ask} c.in-Counted.ensures refl)
 
 pub returns-in-Nothing : goal.returns-in-Nothing
-returns-in-Nothing c = heard_as c c.in-Nothing.is
+returns-in-Nothing c =
+    let x : Station = lending c.args.printer c.args.lengths.now c.args.bodies.now c.args.out.now in
+    by_received c.args.diagnosis.now c.args.not_yet c.args.telegram.now x {r = received.Nothing} c.in-Nothing.ensures refl
 
 pub returns-in-Elsewhere : goal.returns-in-Elsewhere
 returns-in-Elsewhere c =
-    ap (answers c) c.quiet.ensures ∙ heard_as c c.in-Elsewhere.is
+    let x : Station = lending c.args.printer c.args.lengths.now c.args.bodies.now c.args.out.now in
+    ap (λ (r : Reaction). leaving r c.args.lengths.now c.args.bodies.now c.args.out.now) c.quiet.ensures
+    ∙ by_received c.args.diagnosis.now c.args.not_yet c.args.telegram.now x {r = received.Elsewhere} c.in-Elsewhere.ensures refl
 
 pub returns-in-Status : goal.returns-in-Status
 returns-in-Status c =
-    let a = c.args in
-    sent a.lengths.now a.bodies.now c.status.ensures ∙ heard_as c c.in-Status.is
+    let x : Station = lending c.args.printer c.args.lengths.now c.args.bodies.now c.args.out.now in
+    sent c.args.lengths.now c.args.bodies.now c.status.ensures
+    ∙ by_received c.args.diagnosis.now c.args.not_yet c.args.telegram.now x {r = received.Status c.in-Status.sa} c.in-Status.ensures refl
 
 pub returns-in-Uncounted : goal.returns-in-Uncounted
 returns-in-Uncounted c =
-    ap (answers c) c.quiet-in-Uncounted.ensures ∙ heard_as c c.in-Uncounted.is
+    let x : Station = lending c.args.printer c.args.lengths.now c.args.bodies.now c.args.out.now in
+    ap (λ (r : Reaction). leaving r c.args.lengths.now c.args.bodies.now c.args.out.now) c.quiet-in-Uncounted.ensures
+    ∙ by_received c.args.diagnosis.now c.args.not_yet c.args.telegram.now x {r = received.Uncounted} c.in-Uncounted.ensures refl
 
 pub returns-in-Opening : goal.returns-in-Opening
 returns-in-Opening c =
-    let station_at : Station = let a = c.args in
-    lending a.printer a.lengths.now a.bodies.now a.out.now in
     let a = c.args in
-    let g = c.received2.given in
-    let s = a.telegram.now in
-    sent a.lengths.now a.bodies.now (c.open.ensures (body_in s g.0.1.0))
+    let o = c.in-Opening in
+    let x : Station = lending c.args.printer c.args.lengths.now c.args.bodies.now c.args.out.now in
+    sent a.lengths.now a.bodies.now (c.open.ensures (body_in a.telegram.now o.ask))
     ∙ ap
-    (λ (x : printer.Ask).
-    stepped (saying (opened a.printer g.0.0) station_at.slots a.out.now (reply_bytes a.diagnosis.now a.printer.address g.0.0 (opening_reply x))))
-    (ask_body s g.0.1.0)
-    ∙ heard_as c g.1
+    (λ (y : printer.Ask).
+    stepped (saying (opened a.printer o.sa) x.slots a.out.now (reply_bytes a.diagnosis.now a.printer.address o.sa (opening_reply y))))
+    (ask_body a.telegram.now o.ask)
+    ∙ by_received c.args.diagnosis.now c.args.not_yet c.args.telegram.now x {r = received.Opening c.in-Opening.sa c.in-Opening.ask} c.in-Opening.ensures refl
 
 pub returns-in-Counted : goal.returns-in-Counted
 returns-in-Counted c =
-    c.counted.ensures ∙ heard_as c c.in-Counted.is
+    let x : Station = lending c.args.printer c.args.lengths.now c.args.bodies.now c.args.out.now in
+    c.counted.ensures
+    ∙ by_received c.args.diagnosis.now c.args.not_yet c.args.telegram.now x {r = received.Counted c.in-Counted.fcb c.in-Counted.sa c.in-Counted.ask} c.in-Counted.ensures refl

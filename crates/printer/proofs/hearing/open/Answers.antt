@@ -1,6 +1,5 @@
 -- `printer::hearing::open` meets its contract.
 use mathlib.Core.Path.{ap}
-use borrow.Author.Rules.{rules}
 use Rattle.protocol.specs.Printer as printer
 use Rattle.protocol.specs.Printer.{reply_bytes}
 use Rattle.printer.proofs.Heard.{opens}

@@ -1,6 +1,5 @@
 -- `printer::hearing::step` meets its contract. A refusal comes before any change.
 use mathlib.Core.Path.{sym, ap, ◌∙◌}
-use borrow.Author.Rules.{rules}
 use Rattle.protocol.specs.Check.{verdict_in}
 use Rattle.protocol.specs.Printer.{Station, lending}
 use Rattle.printer.proofs.Heard.{may_be_used, by_check}

@@ -2,7 +2,6 @@
 use mathlib.Core.List.{[], ◌∷◌}
 use native.Mathlib.Omega.{arith}
 use lib.ListN.{length-set}
-use borrow.Author.Rules.{rules}
 use Rattle.octets.proofs.Front.{stores}
 use Rattle.content.specs.Writing.{bytes_for}
 use Rattle.printer.proofs.replies.put_result.Goals as goal
@@ -28,11 +27,11 @@ bounds-out-3-in-Negative c = simp length-set (omega (arith, c.requires))
 pub returns-in-Positive : goal.returns-in-Positive
 unfolding bytes_for
 returns-in-Positive c =
-    let g = c.outcome.given in
-    rw g.1 (stores (0x5F ∷ g.0.0 ∷ g.0.1.0 ∷ g.0.1.1.0 ∷ []) c.args.out.now c.requires)
+    let o = c.in-Positive in
+    rw o.is (stores (0x5F ∷ o.slot ∷ o.index ∷ o.length ∷ []) c.args.out.now c.requires)
 
 pub returns-in-Negative : goal.returns-in-Negative
 unfolding bytes_for
 returns-in-Negative c =
-    let g = c.outcome2.given in
-    rw g.1 (stores (0xDF ∷ 128 ∷ g.0.0 ∷ g.0.1.0 ∷ []) c.args.out.now c.requires)
+    let o = c.in-Negative in
+    rw o.is (stores (0xDF ∷ 128 ∷ o.code1 ∷ o.code2 ∷ []) c.args.out.now c.requires)

@@ -1,5 +1,4 @@
 -- `printer::replies::say` meets its contract. One case for each reply.
-use borrow.Author.Rules.{rules}
 use Rattle.printer.proofs.replies.say.Goals as goal
 
 pub returns-in-Confirmation : goal.returns-in-Confirmation

@@ -2,7 +2,6 @@
 use mathlib.Core.Path.{◌≡◌}
 use mathlib.Core.List.{List, []}
 use Prim.Native.Nat.{ℕ}
-use borrow.Author.Rules.{rules}
 use Rattle.octets.specs.Front.{fine}
 use Rattle.fdl.proofs.Around.{user_none}
 use Rattle.fdl.specs.Writing.{telegram_of, verdict_of}

@@ -1,7 +1,6 @@
 -- `printer::replies::say_confirmation` meets its contract.
 use mathlib.Core.Path.{refl}
 use native.Mathlib.Omega.{arith}
-use borrow.Author.Rules.{rules}
 use Rattle.fdl.specs.Writing.{confirmation_bytes}
 use Rattle.printer.proofs.Sent.{small, sent}
 use Rattle.printer.proofs.replies.say_confirmation.Goals as goal

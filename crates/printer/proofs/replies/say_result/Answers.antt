@@ -4,7 +4,6 @@ use mathlib.Core.List.{List, []}
 use Prim.Native.Nat.{ℕ, ◌+◌, ◌≤◌}
 use native.Mathlib.Omega.{arith}
 use lib.ListN.{length}
-use borrow.Author.Rules.{rules}
 use Rattle.octets.specs.Front.{fine}
 use Rattle.octets.proofs.Front.{lent_length}
 use Rattle.fdl.specs.Writing.{telegram_of, verdict_of}

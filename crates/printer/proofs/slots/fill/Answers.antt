@@ -3,7 +3,6 @@ use mathlib.Core.Path.{ap}
 use mathlib.Core.List.{List}
 use Prim.Native.Nat.{ℕ}
 use lib.ListN.{length, set}
-use borrow.Author.Rules.{rules}
 use Rattle.printer.specs.Meaning.{slots_of}
 use Rattle.printer.proofs.slots.fill.Goals as goal
 

@@ -1,5 +1,4 @@
 -- `printer::slots::keep` meets its contract.
-use borrow.Author.Rules.{rules}
 use Rattle.printer.proofs.slots.keep.Goals as goal
 
 pub fill-requires : goal.fill-requires
