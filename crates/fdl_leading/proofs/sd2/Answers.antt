@@ -24,19 +24,15 @@ returns-then-s-le c =
 pub returns-then-s-ne-SD2 : goal.returns-then-s-ne-SD2
 unfolding sd2_leading
 returns-then-s-ne-SD2 c =
-    let b = c in
-    let a = b in
-    simp (le-ltb _ _ a.if-s-lt4.false, le-ltb _ _ a.if-le-lt4.false, le-ltb _ _ a.if-le-gt249.false, eq-eqb _ _ b.if-s-le.false, ne_eqb _ _ c.if-s-ne-SD2.true)
+    simp (le-ltb _ _ c.if-s-lt4.false, le-ltb _ _ c.if-le-lt4.false, le-ltb _ _ c.if-le-gt249.false, eq-eqb _ _ c.if-s-le.false, ne_eqb _ _ c.if-s-ne-SD2.true)
 
 pub returns : goal.returns
 unfolding sd2_leading
 returns c =
-    let b = c in
-    let a = b in
     simp (
-      le-ltb _ _ a.if-s-lt4.false,
-      le-ltb _ _ a.if-le-lt4.false,
-      le-ltb _ _ a.if-le-gt249.false,
-      eq-eqb _ _ b.if-s-le.false,
+      le-ltb _ _ c.if-s-lt4.false,
+      le-ltb _ _ c.if-le-lt4.false,
+      le-ltb _ _ c.if-le-gt249.false,
+      eq-eqb _ _ c.if-s-le.false,
       eq-eqb _ _ c.if-s-ne-SD2.false,
     )
