@@ -1,6 +1,6 @@
 -- Every refusal of a configuration, read or to be written, has a number of document 01's table.
 use Rattle.std.specs.Prelude.{ℕ, zero, suc, ◌≡◌, ◌+◌, refl, true, List, [], ◌∷◌, get_or}
-use Rattle.octets.specs.Choice.{through, alike}
+use Rattle.octets.proofs.Choice.{through, alike}
 use Rattle.octets.specs.Front.{Verdict, fine, fault}
 use Rattle.octets.specs.Refusals.{listed, numbered}
 use Rattle.configuration.specs.Fields.{identifier_of}
