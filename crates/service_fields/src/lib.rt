@@ -1,5 +1,6 @@
 // A service's own fields, and which content such fields name.
 #![tactic(auto)]
+
 ghost use Rattle.std.specs.Prelude.{◌≡◌, ◌∷◌};
 ghost use Rattle.octets.specs.Places.{places_of};
 ghost use Rattle.function_code.specs.Code.{class_of};

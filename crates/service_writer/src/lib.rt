@@ -1,6 +1,7 @@
 // Writing a whole telegram for a service: a bad telegram field or data length gives 12, a function code
 // that the service does not go by 10; then come the refusals of the service's own data, and 11 last.
 #![tactic(auto)]
+
 ghost use Rattle.std.specs.Prelude.{◌≡◌, true, ◌+◌, ◌≤◌, ltb, length};
 ghost use Rattle.octets.specs.Choice.{pick};
 ghost use Rattle.octets.specs.Front.{answer_by, held_by};

@@ -7,29 +7,15 @@ use Rattle.parameters.specs.Writing.{status_bytes, fixed_bytes}
 use Rattle.parameters.specs.declared.fields.Extension.{Extension}
 use Rattle.parameters.specs.declared.fields.Extension.TheVariants.{Dpv0, Dpv1}
 use Rattle.octets.specs.Places.{places_of}
-use borrow.Author.Rules.{rules}
-use Rattle.service_fields.proofs.parameters_own.Statement.{statement}
-use Rattle.service_fields.proofs.parameters_own.Tie as tie
+use Rattle.service_fields.proofs.parameters_own.Goals as goal
 
 -- three places of four, and of ten
 three : (x : Extension) → take 3 (places_of 4 (status_bytes x)) ≡ take 3 (status_bytes x ++ replicate 10 0)
 three Dpv0 = refl
 three (Dpv1 a b c) = refl
 
-status-four-requires : tie.Need-status-four-requires
-status-four-requires c κs = search rules
-
-cast-t8 : tie.Need-overflow-cast-t8
-cast-t8 c = search rules
-
-cast-t10 : tie.Need-overflow-cast-t10
-cast-t10 c = search rules
-
-returns : tie.Need-returns
+pub returns : goal.returns
 returns c =
-    let a = c.before.before.args in
-    ap (λ (l : List ℕ). 61 ∷ (fixed_bytes a.fields ++ take 3 l)) c.status-four.ensures
+    let a = c.args in
+    ap (λ (l : List ℕ). 61 ∷ (fixed_bytes a.fields ++ take 3 l)) c.status_four-status.ensures
     ∙ ap (λ (l : List ℕ). 61 ∷ (fixed_bytes a.fields ++ l)) (three a.fields.extension)
-
-pub parameters-own-spec : {M : Type 1} → statement M
-parameters-own-spec = tie.close (tie.spec status-four-requires cast-t8 cast-t10 returns)
