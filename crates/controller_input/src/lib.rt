@@ -1,6 +1,7 @@
 // What a reply is to the controller (document 01, "The controller's step"). The reply is read once, also where
 // it carries a service, and of a service only what a download has a use for. Its class is looked up once.
 #![tactic(auto)]
+
 ghost use Rattle.std.specs.Prelude.{◌≡◌};
 ghost use Rattle.function_code.specs.Code.{class_of};
 ghost use Rattle.fdl.specs.Reading.{read_of};

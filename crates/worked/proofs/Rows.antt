@@ -16,7 +16,7 @@ use Rattle.typed.specs.Value.{kind_of, value_of}
 use Rattle.typed.specs.Reading as typed
 use Rattle.book.specs.Table.{good_pair, pair_of, table_of}
 use Rattle.book.specs.Reading as book
-use Rattle.worked.specs.Rows.{{, Rows}
+use Rattle.worked.specs.Rows.{Rows}
 
 pub further_rows : Rows
 unfolding extension_of source_of destination_of fields_of framed_of sd2_of read_by checksum_of class_of failed_by negative_of good_code1 named_in ranged_of by_number where_allowed answers.four_of answers.read_answer_of calls.four_of calls.read_call_of reports count_from lowest_from extension_verdict verdict_of parameters.read_of kind_of value_of typed.read_of good_pair pair_of table_of book.bodies_by book.read_of

@@ -42,7 +42,7 @@ parameter_bytes status1 = 0x08 ∷ 20 ∷ 5 ∷ 11 ∷ 0x12 ∷ 0x34 ∷ 0 ∷ s
 
 abbrev parameter_fields : (status1 : ℕ) → Parameters
 parameter_fields status1 =
-    pub record {
+    record {
       flags = 0x08;
       factor1 = 20;
       factor2 = 5;

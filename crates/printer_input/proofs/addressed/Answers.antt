@@ -1,9 +1,5 @@
 -- `printer_input::addressed` meets its contract: the class is a call's, then the address.
-use mathlib.Core.Path.{◌≡◌, sym, ap, ◌∙◌}
-use borrow.Author.Tests.{not-true, not-false, eq-eqb, ne_eqb}
-use Rattle.function_code.specs.Code.{class_of}
-use Rattle.protocol.specs.Printer.{is_call}
-use borrow.Author.Rules.{rules}
+use mathlib.Core.Path.{sym, ◌∙◌}
 use Rattle.printer_input.proofs.addressed.Goals as goal
 
 pub called-requires : goal.called-requires
