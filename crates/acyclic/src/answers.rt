@@ -4,7 +4,7 @@ use octets::Refusal;
 
 // A read and a data transport have data, which are lent bytes; their count is the length byte. A
 // negative answer says why a function was not performed.
-#[derive(Drop)]
+#[derive(Clone, Copy)]
 pub enum Answer {
     Read {
         slot: u8,

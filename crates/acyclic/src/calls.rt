@@ -2,7 +2,7 @@
 use octets::Refusal;
 
 // A write and a data transport have data, which are lent bytes; their count is the length byte.
-#[derive(Drop)]
+#[derive(Clone, Copy)]
 pub enum Call {
     Poll,
     Read { slot: u8, index: u8, length: u8 },

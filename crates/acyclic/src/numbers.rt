@@ -23,7 +23,7 @@ pub const NEGATIVE_ALARM_ACK: u8 = NEGATIVE + ALARM_ACK;
 pub const NEGATIVE_TRANSPORT: u8 = NEGATIVE + TRANSPORT;
 
 // The functions that have a negative answer.
-#[derive(Drop)]
+#[derive(Clone, Copy)]
 pub enum Function {
     Read,
     Write,

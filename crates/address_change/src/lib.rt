@@ -8,7 +8,7 @@ ghost use Rattle.address_change.specs.Address.{read_of, fixed_bytes, bytes_for, 
 use octets::{Refusal, Written};
 
 // The slave with this ident number gets the address; with locked 1, and not 0, no later change is allowed.
-#[derive(Drop)]
+#[derive(Clone, Copy)]
 pub struct AddressChange {
     pub address: u8,
     pub ident: u16,

@@ -1,11 +1,11 @@
 -- Every refusal of a configuration, read or to be written, has a number of document 01's table.
-use Rattle.std.specs.Prelude.{ℕ, zero, suc, ◌≡◌, refl, true, List, [], ◌∷◌, get_or}
+use Rattle.std.specs.Prelude.{ℕ, zero, suc, ◌≡◌, ◌+◌, refl, true, List, [], ◌∷◌, get_or}
 use Rattle.octets.proofs.Choice.{through, alike}
 use Rattle.octets.specs.Front.{Verdict, fine, fault}
 use Rattle.octets.specs.Refusals.{listed, numbered}
 use Rattle.configuration.specs.Fields.{identifier_of}
 use Rattle.configuration.specs.Walk.{Found, one, unfit, special_in, module_by, module_in, Walk, end, bad, more, after, walk_of}
-use Rattle.configuration.specs.Reading.{totals_of, within_limit, read_of, with_room, offsets_of}
+use Rattle.configuration.specs.Reading.{input_of, output_of, totals_of, within_limit, read_of, with_room, offsets_of}
 use Rattle.configuration.specs.Writing.{verdict_in}
 use Rattle.configuration.specs.declared.fields.Identifier.{Identifier}
 use Rattle.configuration.specs.declared.fields.Identifier.TheVariants.{General, Special}
@@ -42,11 +42,11 @@ walk_numbered [] skip = refl
 walk_numbered (x ∷ xs) zero = after_numbered (module_in (x ∷ xs)) (x ∷ xs) (walk_of xs) (module_numbered (x ∷ xs)) (walk_numbered xs)
 walk_numbered (x ∷ xs) (suc k) = walk_numbered xs k
 
-totals_numbered : (w : Walk) (n i o : ℕ) → numbered (walk_verdict w) ≡ true → numbered (verdict_in (totals_of n i o w)) ≡ true
+totals_numbered : (n i o : ℕ) (w : Walk) → numbered (walk_verdict w) ≡ true → numbered (verdict_in (totals_of n i o w)) ≡ true
 unfolding totals_of
-totals_numbered end n i o h = refl
-totals_numbered (bad r) n i o h = h
-totals_numbered (more m vendor w) n i o h = totals_numbered w _ _ _ h
+totals_numbered n i o end h = refl
+totals_numbered n i o (bad r) h = h
+totals_numbered n i o (more m vendor w) h = totals_numbered (n + 1) (i + input_of m) (o + output_of m) w h
 
 limit_numbered : (r : Reading) → numbered (verdict_in r) ≡ true → numbered (verdict_in (within_limit r)) ≡ true
 unfolding within_limit listed
@@ -56,7 +56,7 @@ limit_numbered (Refused r) h = h
 pub reading_numbered : (s : List ℕ) → numbered (verdict_in (read_of s)) ≡ true
 unfolding read_of listed
 reading_numbered s =
-    let h = limit_numbered (totals_of 0 0 0 (walk_of s 0)) (totals_numbered (walk_of s 0) 0 0 0 (walk_numbered s 0)) in
+    let h = limit_numbered (totals_of 0 0 0 (walk_of s 0)) (totals_numbered 0 0 0 (walk_of s 0) (walk_numbered s 0)) in
     simp (through verdict_in, through numbered, alike, h)
 
 room_numbered : (a b : ℕ) (r : Reading) → numbered (verdict_in r) ≡ true → numbered (verdict_in (with_room a b r)) ≡ true

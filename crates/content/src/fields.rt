@@ -12,7 +12,7 @@ use parameters::{Extension, Parameters};
 
 // A service with its fields. The way of a telegram tells the call of Rd_Inp, Rd_Outp and Get_Cfg,
 // which is empty, from the answer.
-#[derive(Drop)]
+#[derive(Clone, Copy)]
 pub enum Content {
     DataExchange,
     Dpv1Call(Call),

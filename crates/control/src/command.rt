@@ -7,7 +7,7 @@ use octets::{Refusal, Written};
 
 // The command's bits: 1 clear data, 2 unfreeze, 3 freeze, 4 unsync, 5 sync. Bit k of groups names
 // group k + 1.
-#[derive(Drop)]
+#[derive(Clone, Copy)]
 pub struct GlobalCommand {
     pub command: u8,
     pub groups: u8,

@@ -6,20 +6,20 @@ use octets::bit_of;
 use protocol::{Outcome, Pending, Printer};
 
 // The printer that bytes are the state of, if they are one's.
-#[derive(Drop)]
+#[derive(Clone, Copy)]
 pub enum PrinterFound {
     Is(Printer),
     Unknown,
 }
 
-#[derive(Drop)]
+#[derive(Clone, Copy)]
 enum PendingFound {
     Is(Pending),
     Unknown,
 }
 
 // The pending result: its kind, three fields that each kind has its own use for, and the polls before it.
-#[derive(Drop)]
+#[derive(Clone, Copy)]
 struct Five(u8, u8, u8, u8, u8);
 
 fn pending_by(kind: u8, first: u8, second: u8, third: u8, wait: u8) -> PendingFound

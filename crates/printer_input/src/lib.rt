@@ -19,7 +19,7 @@ use function_code::Class;
 
 // What an opening or a counted call asks for. The body of a write is the len bytes of the telegram from
 // start, which `octets::part` hands back.
-#[derive(Drop)]
+#[derive(Clone, Copy)]
 pub enum Ask {
     SlaveDiag,
     Write {
@@ -36,7 +36,7 @@ pub enum Ask {
 }
 
 // What a telegram is to the printer; `sa` is the station that sent it.
-#[derive(Drop)]
+#[derive(Clone, Copy)]
 pub enum Received {
     // Refused bytes, a token, a short confirmation, an answer.
     Nothing,

@@ -7,7 +7,7 @@ use printer_input::Ask;
 use protocol::{Outcome, Pending, Printer};
 
 // The functions of a bare reply: 0 to 3.
-#[derive(Drop)]
+#[derive(Clone, Copy)]
 pub enum Status {
     Ok,
     UserError,
@@ -16,7 +16,7 @@ pub enum Status {
 }
 
 // What is sent back, other than the held reply.
-#[derive(Drop)]
+#[derive(Clone, Copy)]
 pub enum Reply {
     Confirmation,
     Bare(Status),
@@ -25,14 +25,14 @@ pub enum Reply {
 }
 
 // The slot that the call's body goes to.
-#[derive(Drop)]
+#[derive(Clone, Copy)]
 pub enum Target {
     Untouched,
     Slot(u8),
 }
 
 // What a new call does.
-#[derive(Drop)]
+#[derive(Clone, Copy)]
 pub struct Deed {
     pub pending: Pending,
     pub writes: u8,

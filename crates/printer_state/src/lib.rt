@@ -1,5 +1,6 @@
 // What a printer may be used with, and what it remembers between two telegrams, as `protocol` defines both.
 #![tactic(auto)]
+
 mod checking;
 mod state;
 

@@ -33,7 +33,7 @@ pub enum Controller {
 }
 
 // How a download ends, and at which template.
-#[derive(Drop)]
+#[derive(Clone, Copy)]
 pub enum Ending {
     Done,
     NoOpening,
@@ -45,7 +45,7 @@ pub enum Ending {
 
 // The request at the front of the lent buffer, of so many bytes, is sent next; or the download ends; or
 // a refusal, which changes nothing.
-#[derive(Drop)]
+#[derive(Clone, Copy)]
 pub enum Action {
     Send { controller: Controller, request: u8 },
     End(Ending),

@@ -3,7 +3,7 @@ use crate::controller::Ending;
 use crate::printer::Printer;
 
 // How it ended, after how many sendings, and the printer then; or a refusal, which changes nothing.
-#[derive(Drop)]
+#[derive(Clone, Copy)]
 pub enum Downloaded {
     Ended {
         ending: Ending,

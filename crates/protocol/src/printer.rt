@@ -2,14 +2,14 @@
 
 // The result of a write: positive with the call's slot number, index and length, or negative with
 // both error codes.
-#[derive(Drop)]
+#[derive(Clone, Copy)]
 pub enum Outcome {
     Positive { slot: u8, index: u8, length: u8 },
     Negative { code1: u8, code2: u8 },
 }
 
 // A result that no poll has fetched yet, and how many polls get "not yet" before it.
-#[derive(Drop)]
+#[derive(Clone, Copy)]
 pub enum Pending {
     Nothing,
     Result { outcome: Outcome, wait: u8 },
@@ -19,7 +19,7 @@ pub enum Pending {
 // fresh printer has SA 255, which no call has); how many bytes at the front of the lent reply buffer
 // are the held reply, 0 for none; the pending result; how many writes were performed since the
 // opening call, at most 255.
-#[derive(Drop)]
+#[derive(Clone, Copy)]
 pub struct Printer {
     pub address: u8,
     pub boarding: bool,
@@ -32,7 +32,7 @@ pub struct Printer {
 
 // The printer after a telegram, and how many bytes at the front of the reply buffer it sends, 0 for
 // no reply; or a refusal, which changes nothing.
-#[derive(Drop)]
+#[derive(Clone, Copy)]
 pub enum Reaction {
     Heard { printer: Printer, reply: u8 },
     Refused(u8),

@@ -1,5 +1,6 @@
 // Reading a whole telegram as a service: the telegram's own refusal, then its route, then its data.
 #![tactic(auto)]
+
 ghost use Rattle.std.specs.Prelude.{◌≡◌, ◌+◌, ◌≤◌, length};
 ghost use Rattle.function_code.specs.Code.{class_of};
 ghost use Rattle.access.specs.Route.{route_of};

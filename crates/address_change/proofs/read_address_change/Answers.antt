@@ -14,12 +14,9 @@ returns-then-address-gt125 c = simp (eq-eqb _ _ c.if-bytes-ne4.false, lt-ltb _ _
 pub returns-then-locked-gt1 : goal.returns-then-locked-gt1
 unfolding verdict_of read_of
 returns-then-locked-gt1 c =
-    let b = c in
-    simp (eq-eqb _ _ b.if-bytes-ne4.false, le-ltb _ _ b.if-address-gt125.false, lt-ltb _ _ c.if-locked-gt1.true)
+    simp (eq-eqb _ _ c.if-bytes-ne4.false, le-ltb _ _ c.if-address-gt125.false, lt-ltb _ _ c.if-locked-gt1.true)
 
 pub returns : goal.returns
 unfolding verdict_of read_of
 returns c =
-    let l = c in
-    let b = l in
-    rw c.join16-ident.ensures (simp (eq-eqb _ _ b.if-bytes-ne4.false, le-ltb _ _ b.if-address-gt125.false, le-ltb _ _ l.if-locked-gt1.false))
+    rw c.join16-ident.ensures (simp (eq-eqb _ _ c.if-bytes-ne4.false, le-ltb _ _ c.if-address-gt125.false, le-ltb _ _ c.if-locked-gt1.false))

@@ -20,22 +20,19 @@ returns-then-fields-gt125 c =
 pub returns-then-fields-gt1 : goal.returns-then-fields-gt1
 unfolding verdict_of
 returns-then-fields-gt1 c =
-    let b = c in
-    record { answer = simp (eq-eqb _ _ b.if-size-ne4.false, le-ltb _ _ b.if-fields-gt125.false, lt-ltb _ _ c.if-fields-gt1.true) ((refused 21 _ _).0); bytes = simp (eq-eqb _ _ b.if-size-ne4.false, le-ltb _ _ b.if-fields-gt125.false, lt-ltb _ _ c.if-fields-gt1.true) ((refused 21 _ _).1) }
+    record { answer = simp (eq-eqb _ _ c.if-size-ne4.false, le-ltb _ _ c.if-fields-gt125.false, lt-ltb _ _ c.if-fields-gt1.true) ((refused 21 _ _).0); bytes = simp (eq-eqb _ _ c.if-size-ne4.false, le-ltb _ _ c.if-fields-gt125.false, lt-ltb _ _ c.if-fields-gt1.true) ((refused 21 _ _).1) }
 
 pub returns-then-out-size : goal.returns-then-out-size
 unfolding verdict_of
 returns-then-out-size c =
-    let passed : let a = c.args in verdict_for a.fields a.rest.now ≡ fine = let b = c in
-    simp (eq-eqb _ _ b.if-size-ne4.false, le-ltb _ _ b.if-fields-gt125.false, le-ltb _ _ c.if-fields-gt1.false) in
+    let passed : let a = c.args in verdict_for a.fields a.rest.now ≡ fine = simp (eq-eqb _ _ c.if-size-ne4.false, le-ltb _ _ c.if-fields-gt125.false, le-ltb _ _ c.if-fields-gt1.false) in
     let small = too_small (bytes_for c.args.fields c.args.rest.now) c.args.out.now (omega arith) in
     record { answer = rw passed small.0; bytes = rw passed small.1 }
 
 pub returns : goal.returns
 unfolding verdict_of
 returns c =
-    let passed : let a = c.args in verdict_for a.fields a.rest.now ≡ fine = let b = c in
-    simp (eq-eqb _ _ b.if-size-ne4.false, le-ltb _ _ b.if-fields-gt125.false, le-ltb _ _ c.if-fields-gt1.false) in
+    let passed : let a = c.args in verdict_for a.fields a.rest.now ≡ fine = simp (eq-eqb _ _ c.if-size-ne4.false, le-ltb _ _ c.if-fields-gt125.false, le-ltb _ _ c.if-fields-gt1.false) in
     let s = c.store_behind.ensures in
     let both = both_written c.put-n.ensures c.args.rest.now s.count s.bytes (omega arith) in
     record { answer = rw passed both.0; bytes = rw passed both.1 }

@@ -3,5 +3,4 @@ use Rattle.capi_acyclic.proofs.rabtunex_write_dpv1_answer.Goals as goal
 
 pub returns : goal.returns
 returns c =
-    let w = c in
-    record { refusal = rw w.answer_named-case.ensures at w.write_case.ensures.refusal; bytes = rw w.answer_named-case.ensures at w.write_case.ensures.bytes; count = rw w.answer_named-case.ensures at w.write_case.ensures.count }
+    record { refusal = rw c.answer_named-case.ensures at c.write_case.ensures.refusal; bytes = rw c.answer_named-case.ensures at c.write_case.ensures.bytes; count = rw c.answer_named-case.ensures at c.write_case.ensures.count }

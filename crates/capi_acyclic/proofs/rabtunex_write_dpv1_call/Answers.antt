@@ -3,5 +3,4 @@ use Rattle.capi_acyclic.proofs.rabtunex_write_dpv1_call.Goals as goal
 
 pub returns : goal.returns
 returns c =
-    let w = c in
-    record { refusal = rw w.call_named-case.ensures at w.write_case.ensures.refusal; bytes = rw w.call_named-case.ensures at w.write_case.ensures.bytes; count = rw w.call_named-case.ensures at w.write_case.ensures.count }
+    record { refusal = rw c.call_named-case.ensures at c.write_case.ensures.refusal; bytes = rw c.call_named-case.ensures at c.write_case.ensures.bytes; count = rw c.call_named-case.ensures at c.write_case.ensures.count }

@@ -4,14 +4,12 @@ use Rattle.capi_acyclic.proofs.write_case.Goals as goal
 
 pub returns-in-Call : goal.returns-in-Call
 returns-in-Call c =
-    let w = c in
-    let e = w.write_call.ensures in
+    let e = c.write_call.ensures in
     record { refusal = rw (c.in-Call.is, ← e.answer) c.store_count.ensures.refusal; bytes = rw c.in-Call.is e.bytes; count = rw (c.in-Call.is, ← e.answer) c.store_count.ensures.count }
 
 pub returns-in-Answer : goal.returns-in-Answer
 returns-in-Answer c =
-    let w = c in
-    let e = w.write_answer.ensures in
+    let e = c.write_answer.ensures in
     record { refusal = rw (c.in-Answer.is, ← e.answer) c.store_count-in-Answer.ensures.refusal; bytes = rw c.in-Answer.is e.bytes; count = rw (c.in-Answer.is, ← e.answer) c.store_count-in-Answer.ensures.count }
 
 pub returns-in-Unknown : goal.returns-in-Unknown

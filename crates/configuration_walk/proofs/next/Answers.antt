@@ -17,16 +17,10 @@ returns-then-at-bytes c = simp (le-ltb _ _ c.if-bytes-at.false, eq-eqb _ _ c.if-
 pub returns-then-x-eq0 : goal.returns-then-x-eq0
 unfolding next_of
 returns-then-x-eq0 c =
-    let t = c in
-    let e = t in
-    let b = e in
-    simp (le-ltb _ _ e.if-bytes-at.false, ne_eqb _ _ e.if-at-bytes.false)
-    (c.special.ensures ∙ ap (step_of _) (sym (is_special b.args.bytes.now b.args.position.at t.if-x-eq0.true)))
+    simp (le-ltb _ _ c.if-bytes-at.false, ne_eqb _ _ c.if-at-bytes.false)
+    (c.special.ensures ∙ ap (step_of _) (sym (is_special c.args.bytes.now c.args.position.at c.if-x-eq0.true)))
 
 pub returns : goal.returns
 unfolding next_of
 returns c =
-    let t = c in
-    let e = t in
-    let b = e in
-    simp (le-ltb _ _ e.if-bytes-at.false, ne_eqb _ _ e.if-at-bytes.false, c.general-module.ensures, is_general b.args.bytes.now b.args.position.at t.if-x-eq0.false, add-zero)
+    simp (le-ltb _ _ c.if-bytes-at.false, ne_eqb _ _ c.if-at-bytes.false, c.general-module.ensures, is_general c.args.bytes.now c.args.position.at c.if-x-eq0.false, add-zero)

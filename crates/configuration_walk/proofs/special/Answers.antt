@@ -6,18 +6,14 @@ use Rattle.configuration_walk.proofs.special.Goals as goal
 
 pub returns-then-vendor-eq15 : goal.returns-then-vendor-eq15
 returns-then-vendor-eq15 c =
-    let b = c in
-    rw (special-at b.args.s.now b.args.at) (simp (eq-eqb _ _ c.if-vendor-eq15.true))
+    rw (special-at c.args.s.now c.args.at) (simp (eq-eqb _ _ c.if-vendor-eq15.true))
 
 pub returns-then-s-at : goal.returns-then-s-at
 returns-then-s-at c =
-    let b = c in
-    rw (special-at b.args.s.now b.args.at) (simp (ne_eqb _ _ c.if-vendor-eq15.false, lt-ltb _ _ c.if-s-at.true))
+    rw (special-at c.args.s.now c.args.at) (simp (ne_eqb _ _ c.if-vendor-eq15.false, lt-ltb _ _ c.if-s-at.true))
 
 pub returns : goal.returns
 unfolding special_of
 returns c =
-    let e = c in
-    let b = e in
-    rw (special-at b.args.s.now b.args.at)
-    (simp (ne_eqb _ _ e.if-vendor-eq15.false, le-ltb _ _ e.if-s-at.false, c.length_byte-output.ensures, c.length_byte-input.ensures))
+    rw (special-at c.args.s.now c.args.at)
+    (simp (ne_eqb _ _ c.if-vendor-eq15.false, le-ltb _ _ c.if-s-at.false, c.length_byte-output.ensures, c.length_byte-input.ensures))

@@ -15,11 +15,9 @@ returns-then-second-eq0 c = simp (le-ltb _ _ c.if-s-at-lt3.false, eq-eqb _ _ c.i
 pub returns-then-not-good_code : goal.returns-then-not-good_code
 unfolding channel_of
 returns-then-not-good_code c =
-    let b = c in
-    simp (le-ltb _ _ b.if-s-at-lt3.false, ne_eqb _ _ b.if-second-eq0.false, sym c.good_code.ensures ∙ c.if-not-good_code.true)
+    simp (le-ltb _ _ c.if-s-at-lt3.false, ne_eqb _ _ c.if-second-eq0.false, sym c.good_code.ensures ∙ c.if-not-good_code.true)
 
 pub returns : goal.returns
 unfolding channel_of
 returns c =
-    let b = c in
-    simp (le-ltb _ _ b.if-s-at-lt3.false, ne_eqb _ _ b.if-second-eq0.false, sym c.good_code.ensures ∙ c.if-not-good_code.false)
+    simp (le-ltb _ _ c.if-s-at-lt3.false, ne_eqb _ _ c.if-second-eq0.false, sym c.good_code.ensures ∙ c.if-not-good_code.false)

@@ -15,7 +15,6 @@ pub returns-then-not-good_status1 : goal.returns-then-not-good_status1
 unfolding judge
 returns-then-not-good_status1 c =
     let short : ltb 238 (length (drop c.args.from c.args.s.now)) ≡ false = simp length-drop (le-ltb _ _ c.if-s-from-gt238.false) in
-    let a = c in
     simp (short, sym c.good_status1.ensures ∙ c.if-not-good_status1.true)
 
 pub returns-then-not-good_status2 : goal.returns-then-not-good_status2
@@ -23,7 +22,6 @@ unfolding judge
 returns-then-not-good_status2 c =
     let short : ltb 238 (length (drop c.args.from c.args.s.now)) ≡ false = simp length-drop (le-ltb _ _ c.if-s-from-gt238.false) in
     let first : good_status1 c.args.header.status1 ≡ true = sym c.good_status1.ensures ∙ c.if-not-good_status1.false in
-    let b = c in
     simp (short, first, sym c.good_status2.ensures ∙ c.if-not-good_status2.true)
 
 pub returns-then-not-good_status3 : goal.returns-then-not-good_status3
@@ -32,8 +30,6 @@ returns-then-not-good_status3 c =
     let short : ltb 238 (length (drop c.args.from c.args.s.now)) ≡ false = simp length-drop (le-ltb _ _ c.if-s-from-gt238.false) in
     let first : good_status1 c.args.header.status1 ≡ true = sym c.good_status1.ensures ∙ c.if-not-good_status1.false in
     let second : good_status2 c.args.header.status2 ≡ true = sym c.good_status2.ensures ∙ c.if-not-good_status2.false in
-    let d = c in
-    let b = d in
     simp (short, first, second, sym c.good_status3.ensures ∙ c.if-not-good_status3.true)
 
 pub returns-then-not-good_master : goal.returns-then-not-good_master
@@ -43,9 +39,6 @@ returns-then-not-good_master c =
     let first : good_status1 c.args.header.status1 ≡ true = sym c.good_status1.ensures ∙ c.if-not-good_status1.false in
     let second : good_status2 c.args.header.status2 ≡ true = sym c.good_status2.ensures ∙ c.if-not-good_status2.false in
     let third : good_status3 c.args.header.status3 ≡ true = sym c.good_status3.ensures ∙ c.if-not-good_status3.false in
-    let e = c in
-    let d = e in
-    let b = d in
     simp (short, first, second, third, sym c.good_master.ensures ∙ c.if-not-good_master.true)
 
 pub returns : goal.returns
@@ -56,8 +49,4 @@ returns c =
     let second : good_status2 c.args.header.status2 ≡ true = sym c.good_status2.ensures ∙ c.if-not-good_status2.false in
     let third : good_status3 c.args.header.status3 ≡ true = sym c.good_status3.ensures ∙ c.if-not-good_status3.false in
     let master : good_master c.args.header.master ≡ true = sym c.good_master.ensures ∙ c.if-not-good_master.false in
-    let m = c in
-    let e = m in
-    let d = e in
-    let b = d in
     simp (short, first, second, third, master) c.agreeing_from.ensures

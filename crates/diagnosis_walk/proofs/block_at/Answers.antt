@@ -60,8 +60,7 @@ overflow_sub-result-in-Module c =
 pub fields_at-requires : goal.fields_at-requires
 fields_at-requires c =
     let inside : Within (length c.args.s.now - c.args.at) c.args.extent.len = within_at c.args.s.now c.args.at c.requires.1 in
-    let b = c in
-    omega (arith, inside, three_at b.args.s.now b.args.at b.requires.1 c.in-Channel.is)
+    omega (arith, inside, three_at c.args.s.now c.args.at c.requires.1 c.in-Channel.is)
 
 pub returns-in-Device : goal.returns-in-Device
 returns-in-Device c = simp c.in-Device.is
@@ -71,7 +70,6 @@ returns-in-Module c =
     let lent : let at = c.args.at in let len = c.args.extent.len in take (at + len - (at + 1)) (drop (at + 1) c.args.s.now) ≡ behind c.args.s.now at len = let a = c.args in
     let e : a.at + a.extent.len - (a.at + 1) ≡ a.extent.len - 1 = omega arith in
     ap (λ (n : ℕ). take n (drop (a.at + 1) a.s.now)) e in
-    let b = c in
     simp (c.in-Module.is, c.set_bits-set.ensures, c.lowest_module-lowest.ensures, lent)
 
 pub returns-in-Channel : goal.returns-in-Channel

@@ -11,29 +11,23 @@ returns-then-not-good_status1 c = simp (sym c.good_status1.ensures ∙ c.if-not-
 pub returns-then-not-good_status2 : goal.returns-then-not-good_status2
 unfolding extension_verdict extension_of
 returns-then-not-good_status2 c =
-    let e1 = c in
-    simp (sym e1.good_status1.ensures ∙ e1.if-not-good_status1.false, sym c.good_status2.ensures ∙ c.if-not-good_status2.true)
+    simp (sym c.good_status1.ensures ∙ c.if-not-good_status1.false, sym c.good_status2.ensures ∙ c.if-not-good_status2.true)
 
 pub returns-then-not-good_status3 : goal.returns-then-not-good_status3
 unfolding extension_verdict extension_of
 returns-then-not-good_status3 c =
-    let e2 = c in
-    let e1 = e2 in
     simp (
-      sym e1.good_status1.ensures ∙ e1.if-not-good_status1.false,
-      sym e2.good_status2.ensures ∙ e2.if-not-good_status2.false,
+      sym c.good_status1.ensures ∙ c.if-not-good_status1.false,
+      sym c.good_status2.ensures ∙ c.if-not-good_status2.false,
       sym c.good_status3.ensures ∙ c.if-not-good_status3.true,
     )
 
 pub returns : goal.returns
 unfolding extension_verdict extension_of
 returns c =
-    let e3 = c in
-    let e2 = e3 in
-    let e1 = e2 in
     simp (
-      sym e1.good_status1.ensures ∙ e1.if-not-good_status1.false,
-      sym e2.good_status2.ensures ∙ e2.if-not-good_status2.false,
-      sym e3.good_status3.ensures ∙ e3.if-not-good_status3.false,
+      sym c.good_status1.ensures ∙ c.if-not-good_status1.false,
+      sym c.good_status2.ensures ∙ c.if-not-good_status2.false,
+      sym c.good_status3.ensures ∙ c.if-not-good_status3.false,
     )
     c.answer.ensures

@@ -33,8 +33,7 @@ pub returns-then-not-good_flags : goal.returns-then-not-good_flags
 unfolding verdict_of read_of
 returns-then-not-good_flags c =
     let enough : let a = c.args in fixed_length a.mode ≤ length a.bytes.now = omega arith in
-    let e2 = c in
-    simp (le-ltb _ _ enough, le-ltb _ _ e2.if-bytes-gt244.false, sym c.good_flags.ensures ∙ c.if-not-good_flags.true)
+    simp (le-ltb _ _ enough, le-ltb _ _ c.if-bytes-gt244.false, sym c.good_flags.ensures ∙ c.if-not-good_flags.true)
 
 pub bounds-bytes-3 : goal.bounds-bytes-3
 bounds-bytes-3 c =
@@ -65,8 +64,7 @@ returns-in-Dpv0 c =
     let flagged : let a = c.args in let s = a.bytes.now in let e = extension_in s a.mode in read_of s a.mode ≡ judged refused (pick (not (good_response (record { 0 = get_or s 3 0 }))) (fault 21) (extension_verdict e)) (answer_in s e (fixed_length a.mode)) = let e2 = c in
     simp (le-ltb _ _ enough, le-ltb _ _ e2.if-bytes-gt244.false, sym c.good_flags.ensures ∙ c.if-not-good_flags.false) in
     let passed : let a = c.args in read_of a.bytes.now a.mode ≡ extension_of a.bytes.now a.mode = flagged ∙ simp (sym c.good_response.ensures ∙ c.if-not-good_response.false) in
-    let e = c in
-    c.answer.ensures ∙ sym (passed ∙ ap (extension_of e.args.bytes.now) c.in-Dpv0.is)
+    c.answer.ensures ∙ sym (passed ∙ ap (extension_of c.args.bytes.now) c.in-Dpv0.is)
 
 pub returns-in-Dpv1 : goal.returns-in-Dpv1
 unfolding verdict_of read_of extension_of
@@ -75,5 +73,4 @@ returns-in-Dpv1 c =
     let flagged : let a = c.args in let s = a.bytes.now in let e = extension_in s a.mode in read_of s a.mode ≡ judged refused (pick (not (good_response (record { 0 = get_or s 3 0 }))) (fault 21) (extension_verdict e)) (answer_in s e (fixed_length a.mode)) = let e2 = c in
     simp (le-ltb _ _ enough, le-ltb _ _ e2.if-bytes-gt244.false, sym c.good_flags.ensures ∙ c.if-not-good_flags.false) in
     let passed : let a = c.args in read_of a.bytes.now a.mode ≡ extension_of a.bytes.now a.mode = flagged ∙ simp (sym c.good_response.ensures ∙ c.if-not-good_response.false) in
-    let e = c in
-    c.dpv1.ensures ∙ sym (passed ∙ ap (extension_of e.args.bytes.now) c.in-Dpv1.is)
+    c.dpv1.ensures ∙ sym (passed ∙ ap (extension_of c.args.bytes.now) c.in-Dpv1.is)

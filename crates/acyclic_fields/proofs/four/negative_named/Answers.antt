@@ -4,7 +4,6 @@ use Rattle.acyclic_fields.proofs.four.negative_named.Goals as goal
 
 pub returns-in-Is : goal.returns-in-Is
 returns-in-Is c =
-    let t = c in
     simp (sym c.in-Is.ensures)
 
 pub returns-in-Nothing : goal.returns-in-Nothing

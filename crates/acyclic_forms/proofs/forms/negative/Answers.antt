@@ -17,11 +17,9 @@ returns-then-not-good_decode c =
 pub returns-then-not-good_code1 : goal.returns-then-not-good_code1
 unfolding negative_of
 returns-then-not-good_code1 c =
-    let d = c in
-    simp (le-ltb _ _ d.if-count-gt0.false, ap not (sym d.good_decode.ensures ∙ d.if-not-good_decode.false), ap not (sym c.good_code1.ensures ∙ c.if-not-good_code1.true))
+    simp (le-ltb _ _ c.if-count-gt0.false, ap not (sym c.good_decode.ensures ∙ c.if-not-good_decode.false), ap not (sym c.good_code1.ensures ∙ c.if-not-good_code1.true))
 
 pub returns : goal.returns
 unfolding negative_of
 returns c =
-    let d = c in
-    simp (le-ltb _ _ d.if-count-gt0.false, ap not (sym d.good_decode.ensures ∙ d.if-not-good_decode.false), ap not (sym c.good_code1.ensures ∙ c.if-not-good_code1.false))
+    simp (le-ltb _ _ c.if-count-gt0.false, ap not (sym c.good_decode.ensures ∙ c.if-not-good_decode.false), ap not (sym c.good_code1.ensures ∙ c.if-not-good_code1.false))

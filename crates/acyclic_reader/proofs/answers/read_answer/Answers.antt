@@ -19,8 +19,7 @@ pub returns-then-number-eq-IDLE : goal.returns-then-number-eq-IDLE
 unfolding by_number where_allowed read_answer_of
 returns-then-number-eq-IDLE c =
     let allowed : let s = c.args.bytes.now in read_answer_of s ≡ by_number refused idle_of four_of s = simp (ne_eqb _ _ c.if-bytes-eq0.false, ap not (sym c.allowed_in_answers.ensures ∙ c.if-not-allowed_in_answers.false)) in
-    let t = c in
-    (rw c.alone.ensures at c.answer_at.ensures) ∙ sym (allowed ∙ simp (eq-eqb _ _ t.if-number-eq-IDLE.true))
+    (rw c.alone.ensures at c.answer_at.ensures) ∙ sym (allowed ∙ simp (eq-eqb _ _ c.if-number-eq-IDLE.true))
 
 pub returns-then-bytes-lt4 : goal.returns-then-bytes-lt4
 unfolding by_number where_allowed read_answer_of
@@ -32,5 +31,4 @@ pub returns : goal.returns
 unfolding by_number where_allowed read_answer_of
 returns c =
     let allowed : let s = c.args.bytes.now in read_answer_of s ≡ by_number refused idle_of four_of s = simp (ne_eqb _ _ c.if-bytes-eq0.false, ap not (sym c.allowed_in_answers.ensures ∙ c.if-not-allowed_in_answers.false)) in
-    let e = c in
-    c.four.ensures ∙ sym (allowed ∙ simp (ne_eqb _ _ e.if-number-eq-IDLE.false, le-ltb _ _ e.if-bytes-lt4.false))
+    c.four.ensures ∙ sym (allowed ∙ simp (ne_eqb _ _ c.if-number-eq-IDLE.false, le-ltb _ _ c.if-bytes-lt4.false))

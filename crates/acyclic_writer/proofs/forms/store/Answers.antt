@@ -11,9 +11,6 @@ returns-then-out-part c =
 
 pub returns : goal.returns
 returns c =
-    let r = c in
-    let p = r in
-    let e = p in
-    let s = r.store_behind.ensures in
-    let told = both_written p.put-n.ensures e.args.part.now s.count s.bytes e.if-out-part.false in
+    let s = c.store_behind.ensures in
+    let told = both_written c.put-n.ensures c.args.part.now s.count s.bytes c.if-out-part.false in
     record { answer = told.0; bytes = told.1 }

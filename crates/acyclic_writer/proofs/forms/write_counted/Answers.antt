@@ -17,13 +17,11 @@ overflow_cast-length c =
 
 pub returns-in-Refused : goal.returns-in-Refused
 returns-in-Refused c =
-    let k = c in
-    let a = k.args in
+    let a = c.args in
     let p = a.part.now in
     record { answer = rw (sym c.in-Refused.ensures) ((refused _ (four a.number a.slot a.index (length p) ++ p) a.out.now).0); bytes = rw (sym c.in-Refused.ensures) ((refused _ (four a.number a.slot a.index (length p) ++ p) a.out.now).1) }
 
 pub returns-in-Fine : goal.returns-in-Fine
 returns-in-Fine c =
     let good : let a = c.args in counted_of a.least (length a.part.now) ≡ fine = sym c.in-Fine.ensures in
-    let s = c in
-    record { answer = rw good s.store.ensures.answer; bytes = rw good s.store.ensures.bytes }
+    record { answer = rw good c.store.ensures.answer; bytes = rw good c.store.ensures.bytes }

@@ -20,14 +20,12 @@ returns-then-count-lt1 c = simp (le-ltb _ _ c.if-bytes-lt1.false, lt-ltb _ _ c.i
 pub returns-then-count-gt16 : goal.returns-then-count-gt16
 unfolding read_of
 returns-then-count-gt16 c =
-    let n = c in
-    simp (le-ltb _ _ n.if-bytes-lt1.false, le-ltb _ _ n.if-count-lt1.false, lt-ltb _ _ c.if-count-gt16.true)
+    simp (le-ltb _ _ c.if-bytes-lt1.false, le-ltb _ _ c.if-count-lt1.false, lt-ltb _ _ c.if-count-gt16.true)
 
 pub returns-then-bytes-front : goal.returns-then-bytes-front
 unfolding read_of
 returns-then-bytes-front c =
-    let n = c in
-    simp (le-ltb _ _ n.if-bytes-lt1.false, le-ltb _ _ n.if-count-lt1.false, le-ltb _ _ c.if-count-gt16.false, lt-ltb _ _ c.if-bytes-front.true)
+    simp (le-ltb _ _ c.if-bytes-lt1.false, le-ltb _ _ c.if-count-lt1.false, le-ltb _ _ c.if-count-gt16.false, lt-ltb _ _ c.if-bytes-front.true)
 
 pub table_in-requires : goal.table_in-requires
 table_in-requires c = (omega arith, omega arith)
@@ -38,8 +36,5 @@ bodies-requires c = tt
 pub returns : goal.returns
 unfolding read_of
 returns c =
-    let t = c in
-    let e = t in
-    let n = e in
-    simp (le-ltb _ _ n.if-bytes-lt1.false, le-ltb _ _ n.if-count-lt1.false, le-ltb _ _ e.if-count-gt16.false, le-ltb _ _ e.if-bytes-front.false, length-drop)
-    (c.bodies.ensures ∙ simp t.table_in.ensures)
+    simp (le-ltb _ _ c.if-bytes-lt1.false, le-ltb _ _ c.if-count-lt1.false, le-ltb _ _ c.if-count-gt16.false, le-ltb _ _ c.if-bytes-front.false, length-drop)
+    (c.bodies.ensures ∙ simp c.table_in.ensures)

@@ -22,18 +22,15 @@ overflow_add-sum-in-loop-i c = omega (arith, c.type_inv.bytes (2 + 2 * c.loop-i.
 
 pub loop-i-preserved : goal.loop-i-preserved
 loop-i-preserved c =
-    let i = c in
-    let l = i in
-    let a = l.args in
-    let k = l.loop-i.i in
+    let a = c.args in
+    let k = c.loop-i.i in
     let x = get_or a.bytes.now (2 + 2 * k) 0 in
-    let e = ap sum_of (second_next a.k k 2 a.bytes.now i.loop-i-test.true) in
+    let e = ap sum_of (second_next a.k k 2 a.bytes.now c.loop-i-test.true) in
     let b = c.type_inv.bytes (2 + 2 * k) in
-    (omega arith, omega (arith, b), omega (arith, e, l.loop-i.invariant.2))
+    (omega arith, omega (arith, b), omega (arith, e, c.loop-i.invariant.2))
 
 pub returns : goal.returns
 returns c =
-    let l = c in
-    let e : l.args.k - l.loop-i.i ≡ 0 = omega arith in
-    let f = rw e at l.loop-i.invariant.2 in
+    let e : c.args.k - c.loop-i.i ≡ 0 = omega arith in
+    let f = rw e at c.loop-i.invariant.2 in
     (omega (arith, f), omega arith)

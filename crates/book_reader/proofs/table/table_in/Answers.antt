@@ -26,9 +26,8 @@ module _ {whole : Table} {k least total : ℕ} (n : ℕ) (s : List ℕ) where
 -- it is good: the invariant holds again, and has the bounds for what is added
 pub loop-k-preserved : goal.loop-k-preserved
 loop-k-preserved c =
-    let here : let l = c in let s = l.args.bytes.now in let n = l.args.n in let k = l.loop-k.k in Running (table_of 0 0 (every_second n 1 s) (every_second n 2 s)) k l.loop-k.least l.loop-k.total (get_or s (1 + 2 * k) 0 ∷ every_second (n - (k + 1)) (1 + 2 * (k + 1)) s) (get_or s (2 + 2 * k) 0 ∷ every_second (n - (k + 1)) (2 + 2 * (k + 1)) s) = let i = c in
-    let a = i.args in
-    next_in a.n a.bytes.now i.loop-k-test.true i.loop-k.invariant.1 in
+    let here : let l = c in let s = l.args.bytes.now in let n = l.args.n in let k = l.loop-k.k in Running (table_of 0 0 (every_second n 1 s) (every_second n 2 s)) k l.loop-k.least l.loop-k.total (get_or s (1 + 2 * k) 0 ∷ every_second (n - (k + 1)) (1 + 2 * (k + 1)) s) (get_or s (2 + 2 * k) 0 ∷ every_second (n - (k + 1)) (2 + 2 * (k + 1)) s) = let a = c.args in
+    next_in a.n a.bytes.now c.loop-k-test.true c.loop-k.invariant.1 in
     (omega arith, goes here c.good_pair.ensures (ap not c.if-not-good_pair.false))
 
 pub loop-k-init : goal.loop-k-init
@@ -39,9 +38,8 @@ loop-k-init c =
 
 pub returns-then-not-good_pair : goal.returns-then-not-good_pair
 returns-then-not-good_pair c =
-    let here : let l = c in let s = l.args.bytes.now in let n = l.args.n in let k = l.loop-k.k in Running (table_of 0 0 (every_second n 1 s) (every_second n 2 s)) k l.loop-k.least l.loop-k.total (get_or s (1 + 2 * k) 0 ∷ every_second (n - (k + 1)) (1 + 2 * (k + 1)) s) (get_or s (2 + 2 * k) 0 ∷ every_second (n - (k + 1)) (2 + 2 * (k + 1)) s) = let i = c in
-    let a = i.args in
-    next_in a.n a.bytes.now i.loop-k-test.true i.loop-k.invariant.1 in
+    let here : let l = c in let s = l.args.bytes.now in let n = l.args.n in let k = l.loop-k.k in Running (table_of 0 0 (every_second n 1 s) (every_second n 2 s)) k l.loop-k.least l.loop-k.total (get_or s (1 + 2 * k) 0 ∷ every_second (n - (k + 1)) (1 + 2 * (k + 1)) s) (get_or s (2 + 2 * k) 0 ∷ every_second (n - (k + 1)) (2 + 2 * (k + 1)) s) = let a = c.args in
+    next_in a.n a.bytes.now c.loop-k-test.true c.loop-k.invariant.1 in
     breaks here c.good_pair.ensures (ap not c.if-not-good_pair.true)
 
 pub overflow_add-least : goal.overflow_add-least
@@ -55,6 +53,5 @@ overflow_add-total c = omega (arith, (loop-k-preserved c).1.small)
 
 pub returns : goal.returns
 returns c =
-    let l = c in
-    let a = l.args in
-    none_in a.n a.bytes.now c.loop-k-test.false l.loop-k.invariant.1
+    let a = c.args in
+    none_in a.n a.bytes.now c.loop-k-test.false c.loop-k.invariant.1

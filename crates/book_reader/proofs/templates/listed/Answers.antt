@@ -44,16 +44,14 @@ returns-then-count-k c =
 pub returns-then-count-gt16 : goal.returns-then-count-gt16
 unfolding listed_of
 returns-then-count-gt16 c =
-    let a = c in
-    simp (le-ltb _ _ a.if-bytes-lt1.false, le-ltb _ _ a.if-k-lt1.false, le-ltb _ _ c.if-count-k.false, lt-ltb _ _ c.if-count-gt16.true)
+    simp (le-ltb _ _ c.if-bytes-lt1.false, le-ltb _ _ c.if-k-lt1.false, le-ltb _ _ c.if-count-k.false, lt-ltb _ _ c.if-count-gt16.true)
 
 pub returns-then-bytes-count : goal.returns-then-bytes-count
 unfolding listed_of
 returns-then-bytes-count c =
-    let a = c in
     simp (
-      le-ltb _ _ a.if-bytes-lt1.false,
-      le-ltb _ _ a.if-k-lt1.false,
+      le-ltb _ _ c.if-bytes-lt1.false,
+      le-ltb _ _ c.if-k-lt1.false,
       le-ltb _ _ c.if-count-k.false,
       le-ltb _ _ c.if-count-gt16.false,
       lt-ltb _ _ c.if-bytes-count.true,
@@ -65,15 +63,12 @@ overflow_cast-result c = omega (arith, c.type_inv.bytes (2 * c.args.k))
 pub returns : goal.returns
 unfolding listed_of
 returns c =
-    let r = c in
-    let e = r in
-    let a = e in
     simp (
-      le-ltb _ _ a.if-bytes-lt1.false,
-      le-ltb _ _ a.if-k-lt1.false,
-      le-ltb _ _ e.if-count-k.false,
-      le-ltb _ _ e.if-count-gt16.false,
-      le-ltb _ _ e.if-bytes-count.false,
-      r.sum_before-before.ensures.0,
-      entry_at_lem e.args.bytes.now e.args.k a.if-k-lt1.false e.if-count-k.false,
+      le-ltb _ _ c.if-bytes-lt1.false,
+      le-ltb _ _ c.if-k-lt1.false,
+      le-ltb _ _ c.if-count-k.false,
+      le-ltb _ _ c.if-count-gt16.false,
+      le-ltb _ _ c.if-bytes-count.false,
+      c.sum_before-before.ensures.0,
+      entry_at_lem c.args.bytes.now c.args.k c.if-k-lt1.false c.if-count-k.false,
     )

@@ -10,7 +10,5 @@ returns-in-Refused c = simp (sym c.in-Refused.ensures)
 
 pub returns-in-Book : goal.returns-in-Book
 returns-in-Book c =
-    let t = c in
-    let r = t in
-    let a = r.args in
+    let a = c.args in
     c.listed.ensures ∙ listed_is a.bytes.now (sym c.in-Book.ensures) a.k

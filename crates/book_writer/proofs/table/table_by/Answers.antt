@@ -25,9 +25,7 @@ module _ {whole : Table} {k least total : ℕ} (slots lengths : List ℕ) (same 
 -- it is good: the invariant holds again, and has the bounds for what is added
 pub loop-k-preserved : goal.loop-k-preserved
 loop-k-preserved c =
-    let here : let l = c in let slots = l.args.slots.now in let lengths = l.args.lengths.now in let k = l.loop-k.k in Running (table_of 0 0 slots lengths) k l.loop-k.least l.loop-k.total (get_or slots k 0 ∷ drop (k + 1) slots) (get_or lengths k 0 ∷ drop (k + 1) lengths) = let i = c in
-    let b = i in
-    next_by_lem b.args.slots.now b.args.lengths.now b.requires.1 i.loop-k-test.true i.loop-k.invariant.1 in
+    let here : let l = c in let slots = l.args.slots.now in let lengths = l.args.lengths.now in let k = l.loop-k.k in Running (table_of 0 0 slots lengths) k l.loop-k.least l.loop-k.total (get_or slots k 0 ∷ drop (k + 1) slots) (get_or lengths k 0 ∷ drop (k + 1) lengths) = next_by_lem c.args.slots.now c.args.lengths.now c.requires.1 c.loop-k-test.true c.loop-k.invariant.1 in
     (omega arith, goes here c.good_pair.ensures (ap not c.if-not-good_pair.false))
 
 pub loop-k-init : goal.loop-k-init
@@ -35,9 +33,7 @@ loop-k-init c = (omega arith, begins _ _)
 
 pub returns-then-not-good_pair : goal.returns-then-not-good_pair
 returns-then-not-good_pair c =
-    let here : let l = c in let slots = l.args.slots.now in let lengths = l.args.lengths.now in let k = l.loop-k.k in Running (table_of 0 0 slots lengths) k l.loop-k.least l.loop-k.total (get_or slots k 0 ∷ drop (k + 1) slots) (get_or lengths k 0 ∷ drop (k + 1) lengths) = let i = c in
-    let b = i in
-    next_by_lem b.args.slots.now b.args.lengths.now b.requires.1 i.loop-k-test.true i.loop-k.invariant.1 in
+    let here : let l = c in let slots = l.args.slots.now in let lengths = l.args.lengths.now in let k = l.loop-k.k in Running (table_of 0 0 slots lengths) k l.loop-k.least l.loop-k.total (get_or slots k 0 ∷ drop (k + 1) slots) (get_or lengths k 0 ∷ drop (k + 1) lengths) = next_by_lem c.args.slots.now c.args.lengths.now c.requires.1 c.loop-k-test.true c.loop-k.invariant.1 in
     breaks here c.good_pair.ensures (ap not c.if-not-good_pair.true)
 
 pub overflow_add-least : goal.overflow_add-least
@@ -51,6 +47,4 @@ overflow_add-total c = omega (arith, (loop-k-preserved c).1.small)
 
 pub returns : goal.returns
 returns c =
-    let l = c in
-    let b = l in
-    none_by b.args.slots.now b.args.lengths.now b.requires.1 (omega arith) l.loop-k.invariant.1
+    none_by c.args.slots.now c.args.lengths.now c.requires.1 (omega arith) c.loop-k.invariant.1

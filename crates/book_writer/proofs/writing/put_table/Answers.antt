@@ -30,17 +30,15 @@ loop-k-init c = (omega arith, refl, refl)
 
 pub bounds-out-k : goal.bounds-out-k
 bounds-out-k c =
-    let room : let a = c.args in (length c.loop-k.out ≡ length a.out.now) × (1 + 2 * length a.slots.now ≤ length c.loop-k.out) = let b = c in
-    let same = length-set b.args.out.now 0 (length b.args.slots.now) in
-    let long = pairs_long b.args.slots.now b.args.lengths.now b.requires.1 in
+    let room : let a = c.args in (length c.loop-k.out ≡ length a.out.now) × (1 + 2 * length a.slots.now ≤ length c.loop-k.out) = let same = length-set c.args.out.now 0 (length c.args.slots.now) in
+    let long = pairs_long c.args.slots.now c.args.lengths.now c.requires.1 in
     (omega arith, omega arith) in
     omega (arith, room)
 
 pub bounds-out-k-in-loop-k : goal.bounds-out-k-in-loop-k
 bounds-out-k-in-loop-k c =
-    let room : let a = c.args in (length c.loop-k.out ≡ length a.out.now) × (1 + 2 * length a.slots.now ≤ length c.loop-k.out) = let b = c in
-    let same = length-set b.args.out.now 0 (length b.args.slots.now) in
-    let long = pairs_long b.args.slots.now b.args.lengths.now b.requires.1 in
+    let room : let a = c.args in (length c.loop-k.out ≡ length a.out.now) × (1 + 2 * length a.slots.now ≤ length c.loop-k.out) = let same = length-set c.args.out.now 0 (length c.args.slots.now) in
+    let long = pairs_long c.args.slots.now c.args.lengths.now c.requires.1 in
     (omega arith, omega arith) in
     simp length-set (omega (arith, room))
 
@@ -50,30 +48,24 @@ loop-k-preserved c =
     let same = length-set b.args.out.now 0 (length b.args.slots.now) in
     let long = pairs_long b.args.slots.now b.args.lengths.now b.requires.1 in
     (omega arith, omega arith) in
-    let i = c in
-    let l = i in
-    let b = l in
-    let slots : List ℕ = b.args.slots.now in
-    let lengths : List ℕ = b.args.lengths.now in
-    let k : ℕ = l.loop-k.k in
-    (omega arith, simp length-set room.0, goes slots lengths l.loop-k.out k b.requires.1 i.loop-k-test.true ∙ l.loop-k.invariant.2)
+    let slots : List ℕ = c.args.slots.now in
+    let lengths : List ℕ = c.args.lengths.now in
+    let k : ℕ = c.loop-k.k in
+    (omega arith, simp length-set room.0, goes slots lengths c.loop-k.out k c.requires.1 c.loop-k-test.true ∙ c.loop-k.invariant.2)
 
 pub shape_of-out : goal.shape_of-out
 shape_of-out c =
-    let room : let a = c.args in (length c.loop-k.out ≡ length a.out.now) × (1 + 2 * length a.slots.now ≤ length c.loop-k.out) = let b = c in
-    let same = length-set b.args.out.now 0 (length b.args.slots.now) in
-    let long = pairs_long b.args.slots.now b.args.lengths.now b.requires.1 in
+    let room : let a = c.args in (length c.loop-k.out ≡ length a.out.now) × (1 + 2 * length a.slots.now ≤ length c.loop-k.out) = let same = length-set c.args.out.now 0 (length c.args.slots.now) in
+    let long = pairs_long c.args.slots.now c.args.lengths.now c.requires.1 in
     (omega arith, omega arith) in
     room.0
 
 pub returns : goal.returns
 returns c =
-    let l = c in
-    let b = l in
-    let slots : List ℕ = b.args.slots.now in
-    let lengths : List ℕ = b.args.lengths.now in
-    let long = pairs_long slots lengths b.requires.1 in
-    let e : l.loop-k.k ≡ length slots = omega arith in
-    let all = stores (length slots ∷ pairs_of slots lengths) b.args.out.now b.requires.2 in
-    let done : l.loop-k.out ≡ sets b.args.out.now 0 (length slots ∷ pairs_of slots lengths) = rw (e, drop-length slots) at l.loop-k.invariant.2 in
+    let slots : List ℕ = c.args.slots.now in
+    let lengths : List ℕ = c.args.lengths.now in
+    let long = pairs_long slots lengths c.requires.1 in
+    let e : c.loop-k.k ≡ length slots = omega arith in
+    let all = stores (length slots ∷ pairs_of slots lengths) c.args.out.now c.requires.2 in
+    let done : c.loop-k.out ≡ sets c.args.out.now 0 (length slots ∷ pairs_of slots lengths) = rw (e, drop-length slots) at c.loop-k.invariant.2 in
     record { counted = omega arith; bytes = done ∙ all.bytes }

@@ -15,21 +15,19 @@ returns-then-slots-lt1 c =
 pub returns-then-slots-gt16 : goal.returns-then-slots-gt16
 unfolding verdict_of
 returns-then-slots-gt16 c =
-    let e = c in
-    let a = e.args in
+    let a = c.args in
     record {
-      answer = simp (le-ltb _ _ e.if-slots-lt1.false, lt-ltb _ _ c.if-slots-gt16.true) ((refused 32 (book_bytes a.slots.now a.lengths.now a.bodies.now) a.out.now).0);
-      bytes = simp (le-ltb _ _ e.if-slots-lt1.false, lt-ltb _ _ c.if-slots-gt16.true) ((refused 32 (book_bytes a.slots.now a.lengths.now a.bodies.now) a.out.now).1);
+      answer = simp (le-ltb _ _ c.if-slots-lt1.false, lt-ltb _ _ c.if-slots-gt16.true) ((refused 32 (book_bytes a.slots.now a.lengths.now a.bodies.now) a.out.now).0);
+      bytes = simp (le-ltb _ _ c.if-slots-lt1.false, lt-ltb _ _ c.if-slots-gt16.true) ((refused 32 (book_bytes a.slots.now a.lengths.now a.bodies.now) a.out.now).1);
     }
 
 pub returns-then-lengths-slots : goal.returns-then-lengths-slots
 unfolding verdict_of
 returns-then-lengths-slots c =
-    let e = c in
-    let a = e.args in
+    let a = c.args in
     record {
-      answer = simp (le-ltb _ _ e.if-slots-lt1.false, le-ltb _ _ e.if-slots-gt16.false, ne_eqb _ _ c.if-lengths-slots.true) ((refused 32 (book_bytes a.slots.now a.lengths.now a.bodies.now) a.out.now).0);
-      bytes = simp (le-ltb _ _ e.if-slots-lt1.false, le-ltb _ _ e.if-slots-gt16.false, ne_eqb _ _ c.if-lengths-slots.true) ((refused 32 (book_bytes a.slots.now a.lengths.now a.bodies.now) a.out.now).1);
+      answer = simp (le-ltb _ _ c.if-slots-lt1.false, le-ltb _ _ c.if-slots-gt16.false, ne_eqb _ _ c.if-lengths-slots.true) ((refused 32 (book_bytes a.slots.now a.lengths.now a.bodies.now) a.out.now).0);
+      bytes = simp (le-ltb _ _ c.if-slots-lt1.false, le-ltb _ _ c.if-slots-gt16.false, ne_eqb _ _ c.if-lengths-slots.true) ((refused 32 (book_bytes a.slots.now a.lengths.now a.bodies.now) a.out.now).1);
     }
 
 pub table_by-requires : goal.table_by-requires
@@ -41,10 +39,7 @@ write_judged-requires c = (omega arith, omega arith)
 pub returns : goal.returns
 unfolding verdict_of
 returns c =
-    let w = c in
-    let t = w in
-    let e = t in
     record {
-      answer = simp (le-ltb _ _ e.if-slots-lt1.false, le-ltb _ _ e.if-slots-gt16.false, eq-eqb _ _ e.if-lengths-slots.false, sym t.table_by.ensures) w.write_judged.ensures.answer;
-      bytes = simp (le-ltb _ _ e.if-slots-lt1.false, le-ltb _ _ e.if-slots-gt16.false, eq-eqb _ _ e.if-lengths-slots.false, sym t.table_by.ensures) w.write_judged.ensures.bytes;
+      answer = simp (le-ltb _ _ c.if-slots-lt1.false, le-ltb _ _ c.if-slots-gt16.false, eq-eqb _ _ c.if-lengths-slots.false, sym c.table_by.ensures) c.write_judged.ensures.answer;
+      bytes = simp (le-ltb _ _ c.if-slots-lt1.false, le-ltb _ _ c.if-slots-gt16.false, eq-eqb _ _ c.if-lengths-slots.false, sym c.table_by.ensures) c.write_judged.ensures.bytes;
     }

@@ -19,29 +19,22 @@ returns-then-bodies-total c =
 pub returns-then-out-slots : goal.returns-then-out-slots
 returns-then-out-slots c =
     let fine_here : let a = c.args in bodies_verdict (length a.bodies.now) a.table ≡ fine = simp (c.in-Total.is, eq-eqb _ _ c.if-bodies-total.false) in
-    let sized : let a = c.args in length (book_bytes a.slots.now a.lengths.now a.bodies.now) ≡ 1 + 2 * length a.slots.now + length a.bodies.now = let b = c in
-    book_long b.args.slots.now b.args.lengths.now b.args.bodies.now b.requires.1 in
-    let e = c in
-    let a = e.args in
+    let sized : let a = c.args in length (book_bytes a.slots.now a.lengths.now a.bodies.now) ≡ 1 + 2 * length a.slots.now + length a.bodies.now = book_long c.args.slots.now c.args.lengths.now c.args.bodies.now c.requires.1 in
+    let a = c.args in
     record { answer = rw fine_here ((too_small (book_bytes a.slots.now a.lengths.now a.bodies.now) a.out.now (omega (arith, sized))).0); bytes = rw fine_here ((too_small (book_bytes a.slots.now a.lengths.now a.bodies.now) a.out.now (omega (arith, sized))).1) }
 
 pub put-requires : goal.put-requires
 put-requires c =
-    let sized : let a = c.args in length (book_bytes a.slots.now a.lengths.now a.bodies.now) ≡ 1 + 2 * length a.slots.now + length a.bodies.now = let b = c in
-    book_long b.args.slots.now b.args.lengths.now b.args.bodies.now b.requires.1 in
+    let sized : let a = c.args in length (book_bytes a.slots.now a.lengths.now a.bodies.now) ≡ 1 + 2 * length a.slots.now + length a.bodies.now = book_long c.args.slots.now c.args.lengths.now c.args.bodies.now c.requires.1 in
     (omega arith, omega arith, omega (arith, sized))
 
 pub returns-in-Refused : goal.returns-in-Refused
 returns-in-Refused c =
-    let t = c in
-    let a = t.args in
+    let a = c.args in
     record { answer = rw c.in-Refused.is ((refused _ (book_bytes a.slots.now a.lengths.now a.bodies.now) a.out.now).0); bytes = rw c.in-Refused.is ((refused _ (book_bytes a.slots.now a.lengths.now a.bodies.now) a.out.now).1) }
 
 pub returns-else-out-slots : goal.returns-else-out-slots
 returns-else-out-slots c =
     let fine_here : let a = c.args in bodies_verdict (length a.bodies.now) a.table ≡ fine = simp (c.in-Total.is, eq-eqb _ _ c.if-bodies-total.false) in
-    let sized : let a = c.args in length (book_bytes a.slots.now a.lengths.now a.bodies.now) ≡ 1 + 2 * length a.slots.now + length a.bodies.now = let b = c in
-    book_long b.args.slots.now b.args.lengths.now b.args.bodies.now b.requires.1 in
-    let p = c in
-    let e = p in
-    record { answer = rw fine_here ((stored (omega (arith, sized)) p.put.ensures).0); bytes = rw fine_here ((stored (omega (arith, sized)) p.put.ensures).1) }
+    let sized : let a = c.args in length (book_bytes a.slots.now a.lengths.now a.bodies.now) ≡ 1 + 2 * length a.slots.now + length a.bodies.now = book_long c.args.slots.now c.args.lengths.now c.args.bodies.now c.requires.1 in
+    record { answer = rw fine_here ((stored (omega (arith, sized)) c.put.ensures).0); bytes = rw fine_here ((stored (omega (arith, sized)) c.put.ensures).1) }

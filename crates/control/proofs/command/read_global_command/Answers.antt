@@ -17,5 +17,4 @@ returns-then-not-good_command c =
 pub returns : goal.returns
 unfolding verdict_of read_of
 returns c =
-    let e = c in
-    simp (eq-eqb _ _ e.if-bytes-ne2.false, ap not (sym e.good_command.ensures ∙ e.if-not-good_command.false))
+    simp (eq-eqb _ _ c.if-bytes-ne2.false, ap not (sym c.good_command.ensures ∙ c.if-not-good_command.false))

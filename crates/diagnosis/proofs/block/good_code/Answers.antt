@@ -19,19 +19,14 @@ returns-then-error-lt1 c =
 pub returns-then-error-le9 : goal.returns-then-error-le9
 unfolding good_code
 returns-then-error-le9 c =
-    let b = c in
-    simp (le-leb _ _ b.if-kind-lt1.false, le-leb _ _ b.if-kind-gt6.false, le-leb _ _ c.if-error-lt1.false, le-leb _ _ c.if-error-le9.true)
+    simp (le-leb _ _ c.if-kind-lt1.false, le-leb _ _ c.if-kind-gt6.false, le-leb _ _ c.if-error-lt1.false, le-leb _ _ c.if-error-le9.true)
 
 pub returns-then-error-lt16 : goal.returns-then-error-lt16
 unfolding good_code
 returns-then-error-lt16 c =
-    let d = c in
-    let b = d in
-    simp (le-leb _ _ b.if-kind-lt1.false, le-leb _ _ b.if-kind-gt6.false, le-leb _ _ d.if-error-lt1.false, lt-leb _ _ d.if-error-le9.false, lt-leb _ _ c.if-error-lt16.true)
+    simp (le-leb _ _ c.if-kind-lt1.false, le-leb _ _ c.if-kind-gt6.false, le-leb _ _ c.if-error-lt1.false, lt-leb _ _ c.if-error-le9.false, lt-leb _ _ c.if-error-lt16.true)
 
 pub returns : goal.returns
 unfolding good_code
 returns c =
-    let d = c in
-    let b = d in
-    simp (le-leb _ _ b.if-kind-lt1.false, le-leb _ _ b.if-kind-gt6.false, le-leb _ _ d.if-error-lt1.false, lt-leb _ _ d.if-error-le9.false, le-leb _ _ c.if-error-lt16.false)
+    simp (le-leb _ _ c.if-kind-lt1.false, le-leb _ _ c.if-kind-gt6.false, le-leb _ _ c.if-error-lt1.false, lt-leb _ _ c.if-error-le9.false, le-leb _ _ c.if-error-lt16.false)

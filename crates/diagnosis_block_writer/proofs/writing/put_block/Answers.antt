@@ -7,5 +7,4 @@ use Rattle.diagnosis_block_writer.proofs.writing.put_block.Goals as goal
 pub returns : goal.returns
 returns c =
     let s = c.store_behind.ensures in
-    let b = c in
-    both_stored (stores (b.args.head ∷ []) b.args.out.now (omega arith)) b.args.bytes.now s.count s.bytes b.requires
+    both_stored (stores (c.args.head ∷ []) c.args.out.now (omega arith)) c.args.bytes.now s.count s.bytes c.requires

@@ -27,35 +27,29 @@ returns-then-channel-gt63 c =
 pub returns-then-not-fits_byte : goal.returns-then-not-fits_byte
 unfolding channel_verdict
 returns-then-not-fits_byte c =
-    let e = c in
-    let a = e.args in
-    record { answer = simp (le-ltb _ _ e.if-channel-gt63.false, sym c.fits_byte.ensures ∙ c.if-not-fits_byte.true) (refused 21 (channel_bytes a.channel) a.out.now).0; bytes = simp (le-ltb _ _ e.if-channel-gt63.false, sym c.fits_byte.ensures ∙ c.if-not-fits_byte.true) (refused 21 (channel_bytes a.channel) a.out.now).1 }
+    let a = c.args in
+    record { answer = simp (le-ltb _ _ c.if-channel-gt63.false, sym c.fits_byte.ensures ∙ c.if-not-fits_byte.true) (refused 21 (channel_bytes a.channel) a.out.now).0; bytes = simp (le-ltb _ _ c.if-channel-gt63.false, sym c.fits_byte.ensures ∙ c.if-not-fits_byte.true) (refused 21 (channel_bytes a.channel) a.out.now).1 }
 
 pub returns-then-channel-eq0 : goal.returns-then-channel-eq0
 unfolding channel_verdict
 returns-then-channel-eq0 c =
     let after2 : Channel = c.args.channel in
     let second : fits after2.direction 3 after2.channel 63 ≡ true = sym c.fits_byte.ensures ∙ c.if-not-fits_byte.false in
-    let f = c in
-    let e = f in
-    let a = e.args in
-    record { answer = simp (le-ltb _ _ e.if-channel-gt63.false, second, eq-eqb _ _ c.if-channel-eq0.true) (refused 25 (channel_bytes a.channel) a.out.now).0; bytes = simp (le-ltb _ _ e.if-channel-gt63.false, second, eq-eqb _ _ c.if-channel-eq0.true) (refused 25 (channel_bytes a.channel) a.out.now).1 }
+    let a = c.args in
+    record { answer = simp (le-ltb _ _ c.if-channel-gt63.false, second, eq-eqb _ _ c.if-channel-eq0.true) (refused 25 (channel_bytes a.channel) a.out.now).0; bytes = simp (le-ltb _ _ c.if-channel-gt63.false, second, eq-eqb _ _ c.if-channel-eq0.true) (refused 25 (channel_bytes a.channel) a.out.now).1 }
 
 pub returns-then-not-fits_byte-2 : goal.returns-then-not-fits_byte-2
 unfolding channel_verdict
 returns-then-not-fits_byte-2 c =
     let after2 : Channel = c.args.channel in
     let second : fits after2.direction 3 after2.channel 63 ≡ true = sym c.fits_byte.ensures ∙ c.if-not-fits_byte.false in
-    let g = c in
-    let f = g in
-    let e = f in
-    let a = e.args in
+    let a = c.args in
     record {
       answer = simp
-          (le-ltb _ _ e.if-channel-gt63.false, second, ne_eqb _ _ g.if-channel-eq0.false, sym c.fits_byte-2.ensures ∙ c.if-not-fits_byte-2.true)
+          (le-ltb _ _ c.if-channel-gt63.false, second, ne_eqb _ _ c.if-channel-eq0.false, sym c.fits_byte-2.ensures ∙ c.if-not-fits_byte-2.true)
           (refused 21 (channel_bytes a.channel) a.out.now).0;
       bytes = simp
-          (le-ltb _ _ e.if-channel-gt63.false, second, ne_eqb _ _ g.if-channel-eq0.false, sym c.fits_byte-2.ensures ∙ c.if-not-fits_byte-2.true)
+          (le-ltb _ _ c.if-channel-gt63.false, second, ne_eqb _ _ c.if-channel-eq0.false, sym c.fits_byte-2.ensures ∙ c.if-not-fits_byte-2.true)
           (refused 21 (channel_bytes a.channel) a.out.now).1;
     }
 
@@ -66,17 +60,13 @@ returns-then-not-good_code c =
     let second : fits after2.direction 3 after2.channel 63 ≡ true = sym c.fits_byte.ensures ∙ c.if-not-fits_byte.false in
     let after4 : Channel = after2 in
     let third : fits after4.kind 7 after4.error 31 ≡ true = sym c.fits_byte-2.ensures ∙ c.if-not-fits_byte-2.false in
-    let h = c in
-    let g = h in
-    let f = g in
-    let e = f in
-    let a = e.args in
+    let a = c.args in
     record {
       answer = simp
-          (le-ltb _ _ e.if-channel-gt63.false, second, ne_eqb _ _ g.if-channel-eq0.false, third, sym c.good_code.ensures ∙ c.if-not-good_code.true)
+          (le-ltb _ _ c.if-channel-gt63.false, second, ne_eqb _ _ c.if-channel-eq0.false, third, sym c.good_code.ensures ∙ c.if-not-good_code.true)
           (refused 25 (channel_bytes a.channel) a.out.now).0;
       bytes = simp
-          (le-ltb _ _ e.if-channel-gt63.false, second, ne_eqb _ _ g.if-channel-eq0.false, third, sym c.good_code.ensures ∙ c.if-not-good_code.true)
+          (le-ltb _ _ c.if-channel-gt63.false, second, ne_eqb _ _ c.if-channel-eq0.false, third, sym c.good_code.ensures ∙ c.if-not-good_code.true)
           (refused 25 (channel_bytes a.channel) a.out.now).1;
     }
 
@@ -158,6 +148,5 @@ returns c =
       third,
       sym c.good_code.ensures ∙ c.if-not-good_code.false,
     ) in
-    let e = c in
-    let a = e.args in
-    record { answer = rw good (stored e.if-out-lt3.false (stores (channel_bytes a.channel) a.out.now e.if-out-lt3.false)).0; bytes = rw good (stored e.if-out-lt3.false (stores (channel_bytes a.channel) a.out.now e.if-out-lt3.false)).1 }
+    let a = c.args in
+    record { answer = rw good (stored c.if-out-lt3.false (stores (channel_bytes a.channel) a.out.now c.if-out-lt3.false)).0; bytes = rw good (stored c.if-out-lt3.false (stores (channel_bytes a.channel) a.out.now c.if-out-lt3.false)).1 }

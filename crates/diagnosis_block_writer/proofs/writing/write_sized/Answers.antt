@@ -14,27 +14,23 @@ pub returns-then-len-lt2 : goal.returns-then-len-lt2
 unfolding sized_verdict
 returns-then-len-lt2 c =
     let bytes_at : List ℕ = (c.args.kind + (length c.args.bytes.now + 1)) ∷ c.args.bytes.now in
-    let b = c in
-    record { answer = simp (lt-ltb _ _ c.if-len-lt2.true) (refused 23 bytes_at b.args.out.now).0; bytes = simp (lt-ltb _ _ c.if-len-lt2.true) (refused 23 bytes_at b.args.out.now).1 }
+    record { answer = simp (lt-ltb _ _ c.if-len-lt2.true) (refused 23 bytes_at c.args.out.now).0; bytes = simp (lt-ltb _ _ c.if-len-lt2.true) (refused 23 bytes_at c.args.out.now).1 }
 
 pub returns-then-len-gt63 : goal.returns-then-len-gt63
 unfolding sized_verdict
 returns-then-len-gt63 c =
     let bytes_at : List ℕ = (c.args.kind + (length c.args.bytes.now + 1)) ∷ c.args.bytes.now in
-    let b = c in
-    record { answer = simp (le-ltb _ _ c.if-len-lt2.false, lt-ltb _ _ c.if-len-gt63.true) (refused 21 bytes_at b.args.out.now).0; bytes = simp (le-ltb _ _ c.if-len-lt2.false, lt-ltb _ _ c.if-len-gt63.true) (refused 21 bytes_at b.args.out.now).1 }
+    record { answer = simp (le-ltb _ _ c.if-len-lt2.false, lt-ltb _ _ c.if-len-gt63.true) (refused 21 bytes_at c.args.out.now).0; bytes = simp (le-ltb _ _ c.if-len-lt2.false, lt-ltb _ _ c.if-len-gt63.true) (refused 21 bytes_at c.args.out.now).1 }
 
 pub returns-then-out-len : goal.returns-then-out-len
 unfolding sized_verdict
 returns-then-out-len c =
     let bytes_at : List ℕ = (c.args.kind + (length c.args.bytes.now + 1)) ∷ c.args.bytes.now in
     let good : sized_verdict c.args.bytes.now ≡ fine = simp (le-ltb _ _ c.if-len-lt2.false, le-ltb _ _ c.if-len-gt63.false) in
-    let b = c in
-    record { answer = rw good (too_small bytes_at b.args.out.now (omega arith)).0; bytes = rw good (too_small bytes_at b.args.out.now (omega arith)).1 }
+    record { answer = rw good (too_small bytes_at c.args.out.now (omega arith)).0; bytes = rw good (too_small bytes_at c.args.out.now (omega arith)).1 }
 
 pub returns : goal.returns
 unfolding sized_verdict
 returns c =
     let good : sized_verdict c.args.bytes.now ≡ fine = simp (le-ltb _ _ c.if-len-lt2.false, le-ltb _ _ c.if-len-gt63.false) in
-    let e = c in
     record { answer = rw good (stored (omega arith) c.put_block.ensures).0; bytes = rw good (stored (omega arith) c.put_block.ensures).1 }

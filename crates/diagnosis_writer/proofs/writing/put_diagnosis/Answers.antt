@@ -5,6 +5,4 @@ use Rattle.diagnosis_writer.proofs.writing.put_diagnosis.Goals as goal
 pub returns : goal.returns
 returns c =
     let s = c.store_behind.ensures in
-    let p = c in
-    let b = p in
-    both_stored p.put_header-n.ensures b.args.blocks.now s.count s.bytes b.requires
+    both_stored c.put_header-n.ensures c.args.blocks.now s.count s.bytes c.requires

@@ -34,8 +34,7 @@ pub returns : goal.returns
 returns c =
     let stored : AtFront (front c.args.header) c.args.out.now (sets c.args.out.now 0 (front c.args.header)) 4 = stores (front c.args.header) c.args.out.now (omega arith) in
     let s = c.store16.ensures in
-    let b = c in
-    both stored (at_front s.count s.bytes (rest_fits stored (bytes_of 2 b.args.header.ident) b.requires))
+    both stored (at_front s.count s.bytes (rest_fits stored (bytes_of 2 c.args.header.ident) c.requires))
 
 pub overflow_add-result : goal.overflow_add-result
 overflow_add-result c = omega (arith, (returns c).counted)

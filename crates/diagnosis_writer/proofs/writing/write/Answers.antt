@@ -13,26 +13,22 @@ returns-then-out-blocks c =
     let bytes_at : List ℕ = diagnosis_bytes c.args.header c.args.blocks.now in
     let verdict_at : Verdict = verdict_of c.args.header c.args.blocks.now in
     let good : verdict_at ≡ fine = ap verdict_by (sym c.in-Blocks.ensures) in
-    let b = c in
-    record { answer = rw good (too_small bytes_at b.args.out.now (omega arith)).0; bytes = rw good (too_small bytes_at b.args.out.now (omega arith)).1 }
+    record { answer = rw good (too_small bytes_at c.args.out.now (omega arith)).0; bytes = rw good (too_small bytes_at c.args.out.now (omega arith)).1 }
 
 pub returns-in-Refused : goal.returns-in-Refused
 returns-in-Refused c =
     let bytes_at : List ℕ = diagnosis_bytes c.args.header c.args.blocks.now in
-    let f = c in
-    let b = f in
     record {
       answer = rw
           (ap verdict_by (sym c.in-Refused.ensures))
-          (refused c.in-Refused.refusal.number bytes_at b.args.out.now).0;
+          (refused c.in-Refused.refusal.number bytes_at c.args.out.now).0;
       bytes = rw
           (ap verdict_by (sym c.in-Refused.ensures))
-          (refused c.in-Refused.refusal.number bytes_at b.args.out.now).1;
+          (refused c.in-Refused.refusal.number bytes_at c.args.out.now).1;
     }
 
 pub returns-else-out-blocks : goal.returns-else-out-blocks
 returns-else-out-blocks c =
     let verdict_at : Verdict = verdict_of c.args.header c.args.blocks.now in
     let good : verdict_at ≡ fine = ap verdict_by (sym c.in-Blocks.ensures) in
-    let e = c in
     record { answer = rw good (stored (omega arith) c.put_diagnosis.ensures).0; bytes = rw good (stored (omega arith) c.put_diagnosis.ensures).1 }

@@ -10,14 +10,11 @@ returns-then-not-good_status1 c =
 
 pub returns-then-not-good_status2 : goal.returns-then-not-good_status2
 returns-then-not-good_status2 c =
-    let e1 = c in
-    sym (ap good_extension e1.in-Dpv1.is
-    ∙ simp (sym e1.good_status1.ensures ∙ e1.if-not-good_status1.false, sym c.good_status2.ensures ∙ c.if-not-good_status2.true))
+    sym (ap good_extension c.in-Dpv1.is
+    ∙ simp (sym c.good_status1.ensures ∙ c.if-not-good_status1.false, sym c.good_status2.ensures ∙ c.if-not-good_status2.true))
 
 pub returns-else-not-good_status2 : goal.returns-else-not-good_status2
 returns-else-not-good_status2 c =
-    let e2 = c in
-    let e1 = e2 in
-    sym (ap good_extension e1.in-Dpv1.is
-    ∙ simp (sym e1.good_status1.ensures ∙ e1.if-not-good_status1.false, sym e2.good_status2.ensures ∙ e2.if-not-good_status2.false)
+    sym (ap good_extension c.in-Dpv1.is
+    ∙ simp (sym c.good_status1.ensures ∙ c.if-not-good_status1.false, sym c.good_status2.ensures ∙ c.if-not-good_status2.false)
     (sym c.good_status3.ensures))

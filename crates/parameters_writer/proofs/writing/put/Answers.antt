@@ -7,13 +7,10 @@ use Rattle.parameters_writer.proofs.writing.put.Goals as goal
 
 pub put_front-n-requires : goal.put_front-n-requires
 put_front-n-requires c =
-    let b = c in
-    let f = b.args.fields in
-    omega (arith, front_length f, first_fits (front_bytes f) b.args.user.now b.requires)
+    let f = c.args.fields in
+    omega (arith, front_length f, first_fits (front_bytes f) c.args.user.now c.requires)
 
 pub returns : goal.returns
 returns c =
     let s = c.store_behind.ensures in
-    let p = c in
-    let b = p in
-    both_stored p.put_front-n.ensures b.args.user.now s.count s.bytes b.requires
+    both_stored c.put_front-n.ensures c.args.user.now s.count s.bytes c.requires

@@ -65,8 +65,7 @@ shape_of-out-in-Dpv0 c = simp length-set
 pub returns-in-Dpv0 : goal.returns-in-Dpv0
 returns-in-Dpv0 c =
     let room : 7 ≤ length c.args.out.now = omega (arith, fixed_least (mode_of c.args.fields.extension)) in
-    let b = c in
-    rw c.in-Dpv0.is (stores (fixed_bytes b.args.fields) b.args.out.now room)
+    rw c.in-Dpv0.is (stores (fixed_bytes c.args.fields) c.args.out.now room)
 
 pub shape_of-out-in-Dpv1 : goal.shape_of-out-in-Dpv1
 shape_of-out-in-Dpv1 c = simp length-set

@@ -22,9 +22,8 @@ unfolding verdict_of
 returns-then-size-gt244 c =
     let bytes_at : List ℕ = bytes_for c.args.fields c.args.user.now in
     let start : c.fixed_length.result ≡ user_start c.args.fields = c.fixed_length.ensures ∙ ap fixed_length c.mode_of.ensures in
-    let b = c in
-    let h : 244 < user_start b.args.fields + length b.args.user.now = omega (arith, start) in
-    record { answer = simp (lt-ltb _ _ h) (refused 20 bytes_at b.args.out.now).0; bytes = simp (lt-ltb _ _ h) (refused 20 bytes_at b.args.out.now).1 }
+    let h : 244 < user_start c.args.fields + length c.args.user.now = omega (arith, start) in
+    record { answer = simp (lt-ltb _ _ h) (refused 20 bytes_at c.args.out.now).0; bytes = simp (lt-ltb _ _ h) (refused 20 bytes_at c.args.out.now).1 }
 
 pub returns-then-not-good_flags : goal.returns-then-not-good_flags
 unfolding verdict_of
@@ -32,9 +31,7 @@ returns-then-not-good_flags c =
     let bytes_at : List ℕ = bytes_for c.args.fields c.args.user.now in
     let start : c.fixed_length.result ≡ user_start c.args.fields = c.fixed_length.ensures ∙ ap fixed_length c.mode_of.ensures in
     let small : let a = c.args in user_start a.fields + length a.user.now ≤ 244 = omega (arith, start) in
-    let e1 = c in
-    let b = e1 in
-    record { answer = simp (le-ltb _ _ small, sym c.good_flags.ensures ∙ c.if-not-good_flags.true) (refused 21 bytes_at b.args.out.now).0; bytes = simp (le-ltb _ _ small, sym c.good_flags.ensures ∙ c.if-not-good_flags.true) (refused 21 bytes_at b.args.out.now).1 }
+    record { answer = simp (le-ltb _ _ small, sym c.good_flags.ensures ∙ c.if-not-good_flags.true) (refused 21 bytes_at c.args.out.now).0; bytes = simp (le-ltb _ _ small, sym c.good_flags.ensures ∙ c.if-not-good_flags.true) (refused 21 bytes_at c.args.out.now).1 }
 
 pub returns-then-not-good_response : goal.returns-then-not-good_response
 unfolding verdict_of
@@ -42,22 +39,19 @@ returns-then-not-good_response c =
     let bytes_at : List ℕ = bytes_for c.args.fields c.args.user.now in
     let start : c.fixed_length.result ≡ user_start c.args.fields = c.fixed_length.ensures ∙ ap fixed_length c.mode_of.ensures in
     let small : let a = c.args in user_start a.fields + length a.user.now ≤ 244 = omega (arith, start) in
-    let e2 = c in
-    let e1 = e2 in
-    let b = e1 in
     record {
       answer = simp (
         le-ltb _ _ small,
-        sym e2.good_flags.ensures ∙ e2.if-not-good_flags.false,
+        sym c.good_flags.ensures ∙ c.if-not-good_flags.false,
         sym c.good_response.ensures ∙ c.if-not-good_response.true,
       )
-          (refused 21 bytes_at b.args.out.now).0;
+          (refused 21 bytes_at c.args.out.now).0;
       bytes = simp (
         le-ltb _ _ small,
-        sym e2.good_flags.ensures ∙ e2.if-not-good_flags.false,
+        sym c.good_flags.ensures ∙ c.if-not-good_flags.false,
         sym c.good_response.ensures ∙ c.if-not-good_response.true,
       )
-          (refused 21 bytes_at b.args.out.now).1;
+          (refused 21 bytes_at c.args.out.now).1;
     }
 
 pub returns-then-not-good_extension : goal.returns-then-not-good_extension
@@ -67,16 +61,14 @@ returns-then-not-good_extension c =
     let verdict_at : Verdict = verdict_for c.args.fields c.args.user.now in
     let start : c.fixed_length.result ≡ user_start c.args.fields = c.fixed_length.ensures ∙ ap fixed_length c.mode_of.ensures in
     let small : let a = c.args in user_start a.fields + length a.user.now ≤ 244 = omega (arith, start) in
-    let rest : let b = c in verdict_at ≡ extension_verdict b.args.fields.extension = let e2 = c in
+    let rest : verdict_at ≡ extension_verdict c.args.fields.extension = let e2 = c in
     simp (
       le-ltb _ _ small,
       sym e2.good_flags.ensures ∙ e2.if-not-good_flags.false,
       sym c.good_response.ensures ∙ c.if-not-good_response.false,
     ) in
-    let e3 = c in
-    let b = e3 in
     let v : verdict_at ≡ fault 21 = rest ∙ extension_verdict_lem _ ∙ simp (sym c.good_extension.ensures ∙ c.if-not-good_extension.true) in
-    record { answer = rw v (refused 21 bytes_at b.args.out.now).0; bytes = rw v (refused 21 bytes_at b.args.out.now).1 }
+    record { answer = rw v (refused 21 bytes_at c.args.out.now).0; bytes = rw v (refused 21 bytes_at c.args.out.now).1 }
 
 pub returns-then-out-size : goal.returns-then-out-size
 unfolding verdict_of
@@ -86,22 +78,21 @@ returns-then-out-size c =
     let total : length bytes_at ≡ c.fixed_length.result + length c.args.user.now = omega (arith, bytes_length c.args.fields c.args.user.now, start) in
     let verdict_at : Verdict = verdict_for c.args.fields c.args.user.now in
     let small : let a = c.args in user_start a.fields + length a.user.now ≤ 244 = omega (arith, start) in
-    let rest : let b = c in verdict_at ≡ extension_verdict b.args.fields.extension = let e2 = c in
+    let rest : verdict_at ≡ extension_verdict c.args.fields.extension = let e2 = c in
     simp (
       le-ltb _ _ small,
       sym e2.good_flags.ensures ∙ e2.if-not-good_flags.false,
       sym c.good_response.ensures ∙ c.if-not-good_response.false,
     ) in
     let verdict : verdict_at ≡ fine = rest ∙ extension_verdict_lem _ ∙ simp (sym c.good_extension.ensures ∙ c.if-not-good_extension.false) in
-    let t = c in
-    record { answer = rw verdict (too_small bytes_at t.args.out.now (omega (arith, total))).0; bytes = rw verdict (too_small bytes_at t.args.out.now (omega (arith, total))).1 }
+    record { answer = rw verdict (too_small bytes_at c.args.out.now (omega (arith, total))).0; bytes = rw verdict (too_small bytes_at c.args.out.now (omega (arith, total))).1 }
 
 pub put-requires : goal.put-requires
 put-requires c =
     let bytes_at : List ℕ = bytes_for c.args.fields c.args.user.now in
     let start : c.fixed_length.result ≡ user_start c.args.fields = c.fixed_length.ensures ∙ ap fixed_length c.mode_of.ensures in
     let total : length bytes_at ≡ c.fixed_length.result + length c.args.user.now = omega (arith, bytes_length c.args.fields c.args.user.now, start) in
-    let room : let b = c in length bytes_at ≤ length b.args.out.now = omega (arith, total) in
+    let room : length bytes_at ≤ length c.args.out.now = omega (arith, total) in
     room
 
 pub returns : goal.returns
@@ -110,7 +101,7 @@ returns c =
     let verdict_at : Verdict = verdict_for c.args.fields c.args.user.now in
     let start : c.fixed_length.result ≡ user_start c.args.fields = c.fixed_length.ensures ∙ ap fixed_length c.mode_of.ensures in
     let small : let a = c.args in user_start a.fields + length a.user.now ≤ 244 = omega (arith, start) in
-    let rest : let b = c in verdict_at ≡ extension_verdict b.args.fields.extension = let e2 = c in
+    let rest : verdict_at ≡ extension_verdict c.args.fields.extension = let e2 = c in
     simp (
       le-ltb _ _ small,
       sym e2.good_flags.ensures ∙ e2.if-not-good_flags.false,
@@ -119,6 +110,5 @@ returns c =
     let verdict : verdict_at ≡ fine = rest ∙ extension_verdict_lem _ ∙ simp (sym c.good_extension.ensures ∙ c.if-not-good_extension.false) in
     let bytes_at : List ℕ = bytes_for c.args.fields c.args.user.now in
     let total : length bytes_at ≡ c.fixed_length.result + length c.args.user.now = omega (arith, bytes_length c.args.fields c.args.user.now, start) in
-    let room : let b = c in length bytes_at ≤ length b.args.out.now = omega (arith, total) in
-    let e = c in
+    let room : length bytes_at ≤ length c.args.out.now = omega (arith, total) in
     record { answer = rw verdict (stored room c.put.ensures).0; bytes = rw verdict (stored room c.put.ensures).1 }

@@ -46,9 +46,7 @@ returns-then-bytes-size c =
     let code_at : ℕ = get_or bytes_at 0 0 in
     let some : eqb (length bytes_at) 0 ≡ false = ne_eqb _ _ c.if-bytes-eq0.false in
     let good : not (good_code code_at) ≡ false = ap not (sym c.good_code.ensures ∙ c.if-not-good_code.false) in
-    let w = c in
-    let e = w in
-    let other : length bytes_at ≡ 1 + width_of code_at → ⊥ = λ l. c.if-bytes-size.true (l ∙ ap (λ (n : ℕ). 1 + n) (sym w.width-size.ensures)) in
+    let other : length bytes_at ≡ 1 + width_of code_at → ⊥ = λ l. c.if-bytes-size.true (l ∙ ap (λ (n : ℕ). 1 + n) (sym c.width-size.ensures)) in
     simp (some, good, ne_eqb _ _ other)
 
 pub bounds-bytes-1 : goal.bounds-bytes-1
@@ -67,10 +65,7 @@ returns-then-not-good_boolean c =
     let code_at : ℕ = get_or bytes_at 0 0 in
     let good : not (good_code code_at) ≡ false = ap not (sym c.good_code.ensures ∙ c.if-not-good_code.false) in
     let sized : length bytes_at ≡ 1 + width_of code_at = c.if-bytes-size.false ∙ ap (λ (n : ℕ). 1 + n) c.width-size.ensures in
-    let b = c in
-    let l = b in
-    let e = l in
-    simp (some, good, eq-eqb _ _ sized, ap not (sym b.good_boolean.ensures ∙ c.if-not-good_boolean.true))
+    simp (some, good, eq-eqb _ _ sized, ap not (sym c.good_boolean.ensures ∙ c.if-not-good_boolean.true))
 
 pub value-requires : goal.value-requires
 value-requires c =
@@ -87,7 +82,4 @@ returns c =
     let code_at : ℕ = get_or bytes_at 0 0 in
     let good : not (good_code code_at) ≡ false = ap not (sym c.good_code.ensures ∙ c.if-not-good_code.false) in
     let sized : length bytes_at ≡ 1 + width_of code_at = c.if-bytes-size.false ∙ ap (λ (n : ℕ). 1 + n) c.width-size.ensures in
-    let b = c in
-    let l = b in
-    let e = l in
-    simp (some, good, eq-eqb _ _ sized, ap not (sym b.good_boolean.ensures ∙ c.if-not-good_boolean.false)) (ap Value c.value.ensures)
+    simp (some, good, eq-eqb _ _ sized, ap not (sym c.good_boolean.ensures ∙ c.if-not-good_boolean.false)) (ap Value c.value.ensures)

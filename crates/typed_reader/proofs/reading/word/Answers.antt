@@ -6,5 +6,4 @@ use Rattle.typed_reader.proofs.reading.word.Goals as goal
 
 pub returns : goal.returns
 returns c =
-    let b = c in
-    c.join16.ensures ∙ ap number_of (sym (rest_elements 2 1 b.args.bytes.now (sym b.requires)))
+    c.join16.ensures ∙ ap number_of (sym (rest_elements 2 1 c.args.bytes.now (sym c.requires)))

@@ -6,9 +6,7 @@ use Rattle.typed_writer.proofs.writing.write.Goals as goal
 
 pub returns-in-Boolean : goal.returns-in-Boolean
 returns-in-Boolean c =
-    let w = c in
-    let p = w in
-    record { answer = rw (c.in-Boolean.is, ← p.boolean_byte.ensures) w.write8.ensures.answer; bytes = rw (c.in-Boolean.is, ← p.boolean_byte.ensures) w.write8.ensures.bytes }
+    record { answer = rw (c.in-Boolean.is, ← c.boolean_byte.ensures) c.write8.ensures.answer; bytes = rw (c.in-Boolean.is, ← c.boolean_byte.ensures) c.write8.ensures.bytes }
 
 pub returns-in-I8 : goal.returns-in-I8
 returns-in-I8 c =
@@ -27,25 +25,20 @@ returns-in-I32 c =
 
 pub returns-in-U8 : goal.returns-in-U8
 returns-in-U8 c =
-    let w = c in
-    record { answer = rw c.in-U8.is w.write8-in-U8.ensures.answer; bytes = rw c.in-U8.is w.write8-in-U8.ensures.bytes }
+    record { answer = rw c.in-U8.is c.write8-in-U8.ensures.answer; bytes = rw c.in-U8.is c.write8-in-U8.ensures.bytes }
 
 pub returns-in-U16 : goal.returns-in-U16
 returns-in-U16 c =
-    let w = c in
-    record { answer = rw c.in-U16.is w.write16-in-U16.ensures.answer; bytes = rw c.in-U16.is w.write16-in-U16.ensures.bytes }
+    record { answer = rw c.in-U16.is c.write16-in-U16.ensures.answer; bytes = rw c.in-U16.is c.write16-in-U16.ensures.bytes }
 
 pub returns-in-U32 : goal.returns-in-U32
 returns-in-U32 c =
-    let w = c in
-    record { answer = rw c.in-U32.is w.write32-in-U32.ensures.answer; bytes = rw c.in-U32.is w.write32-in-U32.ensures.bytes }
+    record { answer = rw c.in-U32.is c.write32-in-U32.ensures.answer; bytes = rw c.in-U32.is c.write32-in-U32.ensures.bytes }
 
 pub returns-in-Float : goal.returns-in-Float
 returns-in-Float c =
-    let w = c in
-    record { answer = rw c.in-Float.is w.write_float.ensures.answer; bytes = rw c.in-Float.is w.write_float.ensures.bytes }
+    record { answer = rw c.in-Float.is c.write_float.ensures.answer; bytes = rw c.in-Float.is c.write_float.ensures.bytes }
 
 pub returns-in-Nan : goal.returns-in-Nan
 returns-in-Nan c =
-    let w = c in
-    record { answer = rw c.in-Nan.is w.write_nan.ensures.answer; bytes = rw c.in-Nan.is w.write_nan.ensures.bytes }
+    record { answer = rw c.in-Nan.is c.write_nan.ensures.answer; bytes = rw c.in-Nan.is c.write_nan.ensures.bytes }

@@ -17,7 +17,6 @@ bounds-out-1 c = simp length-set (omega arith)
 
 pub returns : goal.returns
 returns c =
-    let b = c in
-    let a = b.args in
-    let byte : a.pattern % 256 ≡ a.pattern = omega (arith, b.ranges.pattern.fits) in
+    let a = c.args in
+    let byte : a.pattern % 256 ≡ a.pattern = omega (arith, c.ranges.pattern.fits) in
     record { answer = rw byte ((stored c.if-out-lt2.false (stores (a.code ∷ a.pattern ∷ []) a.out.now c.if-out-lt2.false)).0); bytes = rw byte ((stored c.if-out-lt2.false (stores (a.code ∷ a.pattern ∷ []) a.out.now c.if-out-lt2.false)).1) }

@@ -8,14 +8,10 @@ use Rattle.typed_writer.proofs.writing.write_float.Goals as goal
 
 pub returns-in-Bits : goal.returns-in-Bits
 returns-in-Bits c =
-    let w = c in
-    let p = w in
-    let m = p in
-    let k = known m.args.number (sym c.in-Bits.ensures) in
-    record { answer = rw (k.0, k.1) w.write32.ensures.answer; bytes = rw (k.0, k.1) w.write32.ensures.bytes }
+    let k = known c.args.number (sym c.in-Bits.ensures) in
+    record { answer = rw (k.0, k.1) c.write32.ensures.answer; bytes = rw (k.0, k.1) c.write32.ensures.bytes }
 
 pub returns-in-Unknown : goal.returns-in-Unknown
 returns-in-Unknown c =
-    let m = c in
-    let a = m.args in
+    let a = c.args in
     record { answer = rw (unknown a.number (sym c.in-Unknown.ensures)) ((refused 12 (bytes_for (Float a.number)) a.out.now).0); bytes = rw (unknown a.number (sym c.in-Unknown.ensures)) ((refused 12 (bytes_for (Float a.number)) a.out.now).1) }

@@ -8,12 +8,9 @@ use Rattle.typed_writer.proofs.writing.write_nan.Goals as goal
 
 pub returns-then-not-is_nan_pattern : goal.returns-then-not-is_nan_pattern
 returns-then-not-is_nan_pattern c =
-    let n = c in
-    let a = n.args in
-    record { answer = rw (ap not (sym n.is_nan_pattern.ensures ∙ c.if-not-is_nan_pattern.true)) ((refused 12 (bytes_for (Nan a.bits)) a.out.now).0); bytes = rw (ap not (sym n.is_nan_pattern.ensures ∙ c.if-not-is_nan_pattern.true)) ((refused 12 (bytes_for (Nan a.bits)) a.out.now).1) }
+    let a = c.args in
+    record { answer = rw (ap not (sym c.is_nan_pattern.ensures ∙ c.if-not-is_nan_pattern.true)) ((refused 12 (bytes_for (Nan a.bits)) a.out.now).0); bytes = rw (ap not (sym c.is_nan_pattern.ensures ∙ c.if-not-is_nan_pattern.true)) ((refused 12 (bytes_for (Nan a.bits)) a.out.now).1) }
 
 pub returns : goal.returns
 returns c =
-    let w = c in
-    let e = w in
-    record { answer = rw (ap not (sym e.is_nan_pattern.ensures ∙ e.if-not-is_nan_pattern.false)) w.write32.ensures.answer; bytes = rw (ap not (sym e.is_nan_pattern.ensures ∙ e.if-not-is_nan_pattern.false)) w.write32.ensures.bytes }
+    record { answer = rw (ap not (sym c.is_nan_pattern.ensures ∙ c.if-not-is_nan_pattern.false)) c.write32.ensures.answer; bytes = rw (ap not (sym c.is_nan_pattern.ensures ∙ c.if-not-is_nan_pattern.false)) c.write32.ensures.bytes }
