@@ -1,5 +1,6 @@
 // The controller's step through the C interface.
 #![tactic(auto)]
+
 ghost use Rattle.std.specs.Prelude.{◌≡◌};
 ghost use Rattle.capi_controller.specs.ControllerEnd.{controller_step, refusal_in, state_after, stored_after, ending_after};
 

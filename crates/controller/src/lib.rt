@@ -1,6 +1,7 @@
 // The controller's step over lent bytes (document 01, "The controller's step"), as `protocol` defines it:
 // what comes next, then its request.
 #![tactic(auto)]
+
 ghost use Rattle.std.specs.Prelude.{◌≡◌};
 ghost use Rattle.protocol.specs.Controller.{leaving, step_of};
 

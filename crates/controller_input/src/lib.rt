@@ -19,7 +19,7 @@ use protocol::Settings;
 use replies::routed;
 
 // A reply that framing accepts.
-#[derive(Drop)]
+#[derive(Clone, Copy)]
 pub enum Reply {
     // SC.
     Confirmation,
@@ -34,7 +34,7 @@ pub enum Reply {
 }
 
 // What came of a sending: a reply, or no bytes, or bytes that framing refuses.
-#[derive(Drop)]
+#[derive(Clone, Copy)]
 pub enum Exchange {
     Answered(Reply),
     Nothing,

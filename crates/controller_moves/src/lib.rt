@@ -1,6 +1,7 @@
 // What the controller does next (document 01, "The controller's step"), as `protocol` defines it, before any lent
 // byte is touched: what is refused, then the next request or the end.
 #![tactic(auto)]
+
 ghost use Rattle.controller_moves.specs.Next.{Decides};
 
 use crate::moves::move_by;
