@@ -1,6 +1,7 @@
 // What is refused of a download before its first sending (document 01, "Template book, printer, download"), as
 // `protocol` defines it.
 #![tactic(auto)]
+
 ghost use Rattle.std.specs.Prelude.{◌≡◌};
 ghost use Rattle.protocol.specs.Check.{verdict_in};
 ghost use Rattle.protocol.specs.Controller.{book_verdict};

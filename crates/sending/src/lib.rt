@@ -1,6 +1,7 @@
 // One sending of a request (document 01, "Template book, printer, download"): the printer's step between what
 // the line does.
 #![tactic(auto)]
+
 ghost use Rattle.std.specs.Prelude.{◌≡◌, get_or};
 ghost use Rattle.protocol.specs.Printer.{lending, leaving};
 ghost use Rattle.sending.specs.Sending.{sent_of, quieted};
