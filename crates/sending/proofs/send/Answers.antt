@@ -20,12 +20,12 @@ pub returns-then-entry-eq2 : goal.returns-then-entry-eq2
 unfolding sent_of
 returns-then-entry-eq2 c =
     let a = c.args in
-    rw (le-ltb 2 a.entry c.if-entry-gt2.left, ne_eqb a.entry 1 c.if-entry-eq1.left, eq-eqb a.entry 2 c.if-entry-eq2.true, c.quiet.ensures)
+    rw (le-ltb 2 a.entry c.if-entry-gt2.false, ne_eqb a.entry 1 c.if-entry-eq1.false, eq-eqb a.entry 2 c.if-entry-eq2.true, c.quiet.ensures)
     (ap unanswered (rw c.at-number.ensures at c.step-reaction.ensures))
 
 pub returns : goal.returns
 unfolding sent_of
 returns c =
     let a = c.args in
-    rw (le-ltb 2 a.entry c.if-entry-gt2.left, ne_eqb a.entry 1 c.if-entry-eq1.left, ne_eqb a.entry 2 c.if-entry-eq2.false)
+    rw (le-ltb 2 a.entry c.if-entry-gt2.false, ne_eqb a.entry 1 c.if-entry-eq1.false, ne_eqb a.entry 2 c.if-entry-eq2.false)
     (rw c.at-number.ensures at c.step-reaction.ensures)
