@@ -20,7 +20,6 @@ use Rattle.access.specs.declared.route.Kind as route-kind
 use Rattle.access.specs.declared.route.Kind.TheVariants as route-kinds
 use Rattle.access.specs.declared.route.Route.{Route}
 use Rattle.access.specs.declared.route.Route.TheVariants as route
-use Rattle.access.specs.declared.table.Service.{Service}
 use Rattle.content.specs.Fields.{service_of, fixed_length}
 use Rattle.content.specs.Writing.{bytes_for, call_verdict, answer_verdict}
 use Rattle.content.specs.declared.fields.Content.{Content}

@@ -62,7 +62,7 @@ kind_numbered : (k : Kind) (n : Named) (fields part : List ℕ) → numbered (ki
 unfolding listed
 kind_numbered kind.Confirmation n fields part = refl
 kind_numbered kind.Token n fields part = refl
-kind_numbered (kind.Telegram f) n fields part = simp (through numbered, alike, named_numbered)
+kind_numbered (kind.Telegram f) n fields part = simp named_numbered
 kind_numbered kind.Unknown n fields part = refl
 
 pub fields_numbered : (fields : List ℕ) (version : ℕ) (part : List ℕ) → numbered (fields-of.verdict_in fields version part) ≡ true
