@@ -1,5 +1,6 @@
 // The whole download through the C interface.
 #![tactic(auto)]
+
 ghost use Rattle.std.specs.Prelude.{◌≡◌};
 ghost use Rattle.capi_download.specs.Joined.{download_between, refusal_in, state_after, ending_after, sendings_after};
 

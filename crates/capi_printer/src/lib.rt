@@ -1,5 +1,6 @@
 // The printer's step through the C interface.
 #![tactic(auto)]
+
 ghost use Rattle.std.specs.Prelude.{◌≡◌};
 ghost use Rattle.capi_printer.specs.PrinterEnd.{printer_step, refusal_in, state_after, sent_after};
 
