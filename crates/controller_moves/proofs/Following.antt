@@ -2,21 +2,24 @@
 use Prim.Native.Nat.{ℕ, zero, suc, ◌+◌, ◌-◌, ◌≤◌, ◌<◌}
 use mathlib.Core.Path.{◌≡◌, refl, ap, ◌∙◌}
 use mathlib.Core.Bool.{Bool, true, false, not}
-use mathlib.Core.List.{List}
+use mathlib.Core.List.{List, [], ◌∷◌}
 use native.Mathlib.Omega.{arith}
 use lib.Dec.{ltb}
 use lib.ListN.{length, drop}
+use types.Run.{OneOf, miss}
+use denote.Enum.Declared as Declared
 use borrow.Author.Tests.{ltb-true, ltb-false}
 use Rattle.octets.proofs.Choice.{and_left, and_right, never}
 use Rattle.book.specs.Contents.{Entry}
 use Rattle.protocol.specs.Line.{stop}
-use Rattle.protocol.specs.Controller.{Got, nothing, confirmation, diagnosis, positive, negative, other, ask_for, again, poll_again, after_job}
+use Rattle.protocol.specs.Controller.{Got, nothing, confirmation, diagnosis, positive, negative, other, ask_for, again, poll_again, after_write, after_opening, after_job}
 use Rattle.protocol.specs.Words.{is_nothing}
 use Rattle.protocol.specs.declared.controller.Settings.{Settings}
 use Rattle.protocol.specs.declared.controller.Job.{Job}
 use Rattle.protocol.specs.declared.controller.Job.TheVariants as job
 use Rattle.protocol.specs.declared.controller.Ending.TheVariants as ending
 use Rattle.controller_state.specs.Templates.{left_from}
+use Rattle.controller_input.specs.contracts.Reply as reply-type
 use Rattle.controller_input.specs.Meaning.{got_by, exchanged}
 use Rattle.controller_input.specs.declared.Exchange.{Exchange}
 use Rattle.controller_input.specs.declared.Exchange.TheVariants as exchange
@@ -84,6 +87,23 @@ module _ (c : Settings) (k : ℕ) (fcb : Bool) (ts : List Entry) where
   pub one_poll_less : (left : ℕ) → (left ≡ 0 → ⊥) → ask_for c k (job.Poll (left - 1)) (not fcb) c.repeats ts ≡ poll_again c k fcb left ts
   one_poll_less zero h = absurd (h refl)
   one_poll_less (suc n) h = let e : suc n - 1 ≡ n = omega arith in ap (λ (m : ℕ). ask_for c k (job.Poll m) (not fcb) c.repeats ts) e
+
+  -- another reply than SC to a write
+  pub strange : (repeats : ℕ) (r : Reply) → OneOf (1 ∷ 2 ∷ 3 ∷ 4 ∷ []) (Declared.tag_of reply-type.the_type r)
+      → stop (ending.Strange k) ≡ after_write c k fcb repeats ts (got_by r)
+  strange repeats reply.Confirmation h = absurd (miss (1 ∷ 2 ∷ 3 ∷ 4 ∷ []) 0 tt h)
+  strange repeats reply.Diagnosis h = refl
+  strange repeats (reply.Positive slot index len) h = refl
+  strange repeats (reply.Negative code1 code2) h = refl
+  strange repeats reply.Other h = refl
+
+-- another reply than the diagnosis to the opening
+pub not_opened : (c : Settings) (ts : List Entry) (r : Reply) → OneOf (0 ∷ 2 ∷ 3 ∷ 4 ∷ []) (Declared.tag_of reply-type.the_type r) → stop ending.NoOpening ≡ after_opening c ts (got_by r)
+not_opened c ts reply.Confirmation h = refl
+not_opened c ts reply.Diagnosis h = absurd (miss (0 ∷ 2 ∷ 3 ∷ 4 ∷ []) 1 tt h)
+not_opened c ts (reply.Positive slot index len) h = refl
+not_opened c ts (reply.Negative code1 code2) h = refl
+not_opened c ts reply.Other h = refl
 
 -- the template behind k
 pub behind : (c : Settings) (k : ℕ) (fcb : Bool) (repeats : ℕ) (book : List Entry)
