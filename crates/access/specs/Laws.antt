@@ -1,5 +1,5 @@
--- What holds of every route: a service's access points name it and no other, a header made for a service leads to it, and
--- answers come from few access points.
+-- The words of the laws of every route: a service's access points name it and no other, a header made for a service leads to it,
+-- and answers come from few access points.
 use Rattle.std.specs.Prelude.{◌≡◌, Bool, true, false, List, [], ◌∷◌}
 use Rattle.octets.specs.Choice.{one_of}
 use Rattle.fdl.specs.declared.telegram.Header.{Header}

@@ -1,4 +1,4 @@
--- Every refusal of a DPV1 call or answer, read or to be written, has a number of document 01's table.
+-- The verdict that the reading of a DPV1 call or answer says.
 use Rattle.octets.specs.Front.{Verdict, fine, fault}
 use Rattle.acyclic.specs.declared.calls.Call.{Call}
 use Rattle.acyclic.specs.declared.calls.CallReading.{CallReading}

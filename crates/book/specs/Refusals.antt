@@ -1,4 +1,4 @@
--- Every refusal of a book, read, looked into or to be written, has a number of document 01's table.
+-- The verdicts that the answers about a book say.
 use Rattle.octets.specs.Front.{Verdict, fine, fault}
 use Rattle.book.specs.declared.table.Table.{Table}
 use Rattle.book.specs.declared.table.Table.TheVariants as table

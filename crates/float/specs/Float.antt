@@ -1,4 +1,4 @@
--- Patterns of 32 bits and the floating-point numbers that they stand for (IEEE 754, binary32), and that both come back.
+-- Patterns of 32 bits and the floating-point numbers that they stand for (IEEE 754, binary32).
 use Rattle.std.specs.Prelude.{ℕ, Bool, Float}
 use Rattle.std.specs.Float.{binary32}
 use Rattle.std.specs.Float.Ieee.{nan_bits, of_bits, to_bits, is_nan}

@@ -1,4 +1,4 @@
--- The choice by a test, by which the definitions of all formats are written, and its laws.
+-- The choice by a test, by which the definitions of all formats are written.
 use Rattle.std.specs.Prelude.{Bool, true, false, List, [], ◌∷◌, ℕ, eqb}
 
 -- the first where the test holds, else the second

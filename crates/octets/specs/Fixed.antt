@@ -1,5 +1,4 @@
--- Formats of fixed bytes with a lent part behind them: what their reader answers by a verdict on the fields, and what
--- their laws share.
+-- Formats of fixed bytes with a lent part behind them: what their reader answers by a verdict on the fields.
 use Rattle.std.specs.Prelude.{ℕ, ◌-◌}
 use Rattle.octets.specs.Front.{Verdict, fine, fault}
 

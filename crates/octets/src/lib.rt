@@ -80,13 +80,16 @@ pub fn store32(n: u32, out: &mut [u8]) -> usize
     4
 }
 
-// Copies source to the front of out, in which it fits, and answers how many bytes that is.
+// Copies source to the front of out, in which it fits, and answers how many bytes that is. A byte at a time: std's copy
+// of a slice would have the archive need memmove of a C library.
 fn copy(source: &[u8], out: &mut [u8]) -> usize
     requires { length source.now ≤ length out.old }
     ensures count { result ≡ length source.now }
     ensures bytes { out.new ≡ take (length source.now) source.now ++ drop (length source.now) out.old }
 {
-    out[..source.len()].copy_from_slice(source);
+    for i in 0..source.len() {
+        out[i] = source[i];
+    }
     source.len()
 }
 

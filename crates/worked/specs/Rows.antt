@@ -1,4 +1,4 @@
--- Further worked bytes, proved together, once. The starred rows of document 01 are `worked_rows` of service; these are for what a law
+-- Further worked bytes, proved together in `proofs/Rows`. The starred rows of document 01 are `worked_rows` of service; these are for what a law
 -- of reading and writing back cannot see, because only the constants of a definition say it. A refusal is told by its number.
 use Rattle.std.specs.Prelude.{ℕ, ◌≡◌, true, false, List, [], ◌∷◌}
 use Rattle.octets.specs.declared.Refusal.{Refusal}
