@@ -1,22 +1,19 @@
 -- What holds of every route: a service's access points name it and no other, a header made for a service leads to it, and
 -- answers come from few access points.
-use Rattle.std.specs.Prelude.{ℕ, ◌≡◌, true, List, [], ◌∷◌, eqb}
+use Rattle.std.specs.Prelude.{ℕ, ◌≡◌, true, List, [], ◌∷◌, eqb, Some, None}
 use Rattle.std.proofs.Math.Path.{refl}
 use Rattle.std.proofs.Common.{sym, ap, ◌∙◌, subst, eqb-true}
 use Rattle.octets.proofs.Choice.{by_pick}
 use Rattle.function_code.specs.Code.{class_of}
 use Rattle.function_code.specs.declared.code.Class.{Class}
 use Rattle.fdl.specs.declared.telegram.Header.{Header}
-use Rattle.fdl.specs.declared.telegram.Sap.{Sap}
-use Rattle.fdl.specs.declared.telegram.Sap.TheVariants.{Absent, Present}
-use Rattle.access.specs.Table.{row_of, look, services, points_in, points_of}
+use Rattle.fdl.specs.Sap.{Sap}
+use Rattle.access.specs.Table.{row_of, look, services, points_in, points_of, Named}
 use Rattle.access.specs.Route.{points_with, named_by, kind_by, kind_of, is_global_control, call_route, command_route, answerer_of, answer_from, answer_route, way_by, route_by, route_of, header_by, header_of, service_route}
 use Rattle.access.specs.declared.table.Service.{Service}
 use Rattle.access.specs.declared.table.Service.TheVariants as service
 use Rattle.access.specs.declared.table.Row.{Row}
 use Rattle.access.specs.declared.table.Points.{Points}
-use Rattle.access.specs.declared.table.Named.{Named}
-use Rattle.access.specs.declared.table.Named.TheVariants.{Is, Nothing}
 use Rattle.access.specs.declared.route.Kind.{Kind}
 use Rattle.access.specs.declared.route.Kind.TheVariants as kind
 use Rattle.access.specs.declared.route.Answering.{Answering}
@@ -27,7 +24,7 @@ use Rattle.access.specs.Laws.{Each, Points-of, Leads, AgainBy, Again, answers_at
 
 -- ---- the list
 -- The access points of a service name it.
-pub points_named : (s : Service) → named_by (points_of s).slave (points_of s).master ≡ Is s
+pub points_named : (s : Service) → named_by (points_of s).slave (points_of s).master ≡ Some s
 unfolding look services
 points_named service.DataExchange = refl
 points_named service.Dpv1 = refl
@@ -42,8 +39,8 @@ points_named service.SetPrm = refl
 points_named service.ChkCfg = refl
 
 -- what holds of every row, where it has the pair, and of none, holds of what is found
-found_by_lem : (P : Named → Type 0) (slave master : ℕ) (rows : List Row) → P Nothing
-    → Each (λ r. r.slave ≡ slave → r.master ≡ master → P (Is r.service)) rows → P (look slave master rows)
+found_by_lem : (P : Named → Type 0) (slave master : ℕ) (rows : List Row) → P None
+    → Each (λ r. r.slave ≡ slave → r.master ≡ master → P (Some r.service)) rows → P (look slave master rows)
 unfolding look
 found_by_lem P slave master [] n q = n
 found_by_lem P slave master (r ∷ rows) n q =
@@ -52,17 +49,17 @@ found_by_lem P slave master (r ∷ rows) n q =
 
 -- the access points of a service in the list are its row's
 in_row : {slave master : ℕ} (s : Service) → points_of s ≡ points_in (row_of s) → (row_of s).slave ≡ slave → (row_of s).master ≡ master
-    → Points-of (Present slave) (Present master) (Is s)
+    → Points-of (Some slave) (Some master) (Some s)
 in_row s p e f = rw (← e, ← f) p
 
 -- A service that a pair names has that pair.
 pub named_points : (slave master : Sap) → Points-of slave master (named_by slave master)
 unfolding services
-named_points Absent Absent = refl
-named_points Absent (Present m) = tt
-named_points (Present s) Absent = tt
-named_points (Present s) (Present m) =
-    found_by_lem (Points-of (Present s) (Present m)) s m services tt
+named_points None None = refl
+named_points None (Some m) = tt
+named_points (Some s) None = tt
+named_points (Some s) (Some m) =
+    found_by_lem (Points-of (Some s) (Some m)) s m services tt
     (in_row service.Dpv1 refl, (in_row service.ExtUserPrm refl, (in_row service.SetSlaveAdr refl, (in_row service.RdInp refl, (in_row service.RdOutp refl, (in_row service.GlobalControl refl, (in_row service.GetCfg refl, (in_row service.SlaveDiag refl, (in_row service.SetPrm refl, (in_row service.ChkCfg refl, tt))))))))))
 
 -- ---- headers
@@ -74,10 +71,10 @@ answerer_routed answering.RdOutp = refl
 answerer_routed answering.GetCfg = refl
 answerer_routed answering.SlaveDiag = refl
 
-call_leads : (s : Service) → Leads s (call_route (Is s))
+call_leads : (s : Service) → Leads s (call_route (Some s))
 call_leads s = by_pick (Leads s) (is_global_control s) (λ _. tt) (λ _. refl)
 
-command_leads : (s : Service) → Leads s (command_route (Is s))
+command_leads : (s : Service) → Leads s (command_route (Some s))
 command_leads s = by_pick (Leads s) (is_global_control s) (λ _. refl) (λ _. tt)
 
 answer_leads : (s : Service) → Leads s (answer_from s)
@@ -93,7 +90,7 @@ answer_leads service.SlaveDiag = refl
 answer_leads service.SetPrm = tt
 answer_leads service.ChkCfg = tt
 
-leads_by : (s : Service) (k : Kind) → Leads s (way_by k (Is s))
+leads_by : (s : Service) (k : Kind) → Leads s (way_by k (Some s))
 leads_by s kind.Call = call_leads s
 leads_by s kind.Command = command_leads s
 leads_by s kind.Answer = answer_leads s
@@ -116,7 +113,7 @@ module _ (s : Service) (da sa fc : ℕ) where
   header_route = rw header_code (route_by_lem (kind_of fc)) where
     route_by_lem : (k : Kind) →
         let h = header_by k da sa fc (points_of s) in
-        route_by k h.dsap h.ssap ≡ way_by k (Is s)
+        route_by k h.dsap h.ssap ≡ way_by k (Some s)
     route_by_lem kind.Call = rw (points_named s)
     route_by_lem kind.Command = rw (points_named s)
     route_by_lem kind.Answer = rw (points_named s)
@@ -131,18 +128,18 @@ module _ (s : Service) (da sa fc : ℕ) where
 module _ (P : Route → Type 0) (slave master : Sap) (none : P route.Nowhere) where
   answer_in_lem : (n : Named) → Points-of slave master n → ((a : Answering) → points_of (answerer_of a) ≡ points_with slave master → P (route.Answer a))
       → P (answer_route n)
-  answer_in_lem Nothing p q = none
-  answer_in_lem (Is service.DataExchange) p q = q answering.DataExchange p
-  answer_in_lem (Is service.Dpv1) p q = q answering.Dpv1 p
-  answer_in_lem (Is service.ExtUserPrm) p q = none
-  answer_in_lem (Is service.SetSlaveAdr) p q = none
-  answer_in_lem (Is service.RdInp) p q = q answering.RdInp p
-  answer_in_lem (Is service.RdOutp) p q = q answering.RdOutp p
-  answer_in_lem (Is service.GlobalControl) p q = none
-  answer_in_lem (Is service.GetCfg) p q = q answering.GetCfg p
-  answer_in_lem (Is service.SlaveDiag) p q = q answering.SlaveDiag p
-  answer_in_lem (Is service.SetPrm) p q = none
-  answer_in_lem (Is service.ChkCfg) p q = none
+  answer_in_lem None p q = none
+  answer_in_lem (Some service.DataExchange) p q = q answering.DataExchange p
+  answer_in_lem (Some service.Dpv1) p q = q answering.Dpv1 p
+  answer_in_lem (Some service.ExtUserPrm) p q = none
+  answer_in_lem (Some service.SetSlaveAdr) p q = none
+  answer_in_lem (Some service.RdInp) p q = q answering.RdInp p
+  answer_in_lem (Some service.RdOutp) p q = q answering.RdOutp p
+  answer_in_lem (Some service.GlobalControl) p q = none
+  answer_in_lem (Some service.GetCfg) p q = q answering.GetCfg p
+  answer_in_lem (Some service.SlaveDiag) p q = q answering.SlaveDiag p
+  answer_in_lem (Some service.SetPrm) p q = none
+  answer_in_lem (Some service.ChkCfg) p q = none
 
   by_answer : ((a : Answering) → points_of (answerer_of a) ≡ points_with slave master → P (route.Answer a)) → P (answer_route (named_by slave master))
   by_answer q = answer_in_lem (named_by slave master) (named_points slave master) q
@@ -150,8 +147,8 @@ module _ (P : Route → Type 0) (slave master : Sap) (none : P route.Nowhere) wh
   -- and of a call's, of either kind
   call_in_lem : (n : Named) → Points-of slave master n → ((s : Service) → points_of s ≡ points_with slave master → P (route.Call s))
       → P (call_route n) × P (command_route n)
-  call_in_lem Nothing p q = (none, none)
-  call_in_lem (Is s) p q =
+  call_in_lem None p q = (none, none)
+  call_in_lem (Some s) p q =
       (by_pick P (is_global_control s) (λ _. none) (λ _. q s p), by_pick P (is_global_control s) (λ _. q s p) (λ _. none))
 
   by_call : ((s : Service) → points_of s ≡ points_with slave master → P (route.Call s))

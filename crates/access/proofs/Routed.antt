@@ -1,5 +1,5 @@
 -- Every service is routed: a header leads to a service exactly when document 01 says so.
-use Rattle.std.specs.Prelude.{ℕ, ◌+◌, ◌*◌, ◌/◌, ◌%◌, ◌≤◌, ◌<◌, ◌≡◌, Bool, true, false, ◌↔◌, eqb}
+use Rattle.std.specs.Prelude.{ℕ, ◌+◌, ◌*◌, ◌/◌, ◌%◌, ◌≤◌, ◌<◌, ◌≡◌, Bool, true, false, ◌↔◌, eqb, Some, None}
 use Rattle.std.proofs.Math.Path.{refl, ap, ap₂, subst}
 use Rattle.std.proofs.Common.{sym, ◌∙◌, arith, eqb-true}
 use Rattle.std.proofs.Math.Nat.{div-div-eq-div-mul}
@@ -11,14 +11,12 @@ use Rattle.function_code.specs.Code as codes
 use Rattle.function_code.specs.declared.code.Class.{Class}
 use Rattle.function_code.specs.declared.code.Class.TheVariants as class
 use Rattle.fdl.specs.declared.telegram.Header.{Header}
-use Rattle.fdl.specs.declared.telegram.Sap.{Sap}
-use Rattle.fdl.specs.declared.telegram.Sap.TheVariants.{Absent, Present}
+use Rattle.fdl.specs.Sap.{Sap}
 use Rattle.access.specs.Table.{look, services, points_of}
 use Rattle.access.specs.Route.{named_by, kind_by, kind_of, is_global_control, call_route, command_route, answerer_of, answer_from, answer_route, way_by, route_by, route_of, header_with, header_by, header_of, service_route}
 use Rattle.access.proofs.Laws.{points_named, answerer_routed, header_route, header_again}
 use Rattle.access.specs.Laws.{Again}
 use Rattle.access.specs.Headers.{CallPoints, AnswerPoints, Calls, opening, counted, function_4, function_6, Answers}
-use Rattle.access.specs.declared.table.Named.TheVariants.{Is}
 use Rattle.access.specs.declared.table.Service.{Service}
 use Rattle.access.specs.declared.table.Service.TheVariants as service
 use Rattle.access.specs.declared.route.Answering.{Answering}
@@ -185,7 +183,7 @@ module _ (h : Header) where
   CallBy kind.Answer s = ⊥
   CallBy kind.Other s = ⊥
 
-  call_by : (k : Kind) {s : Service} → made k s ≡ h → way_by k (Is s) ≡ route.Call s → CallBy k s
+  call_by : (k : Kind) {s : Service} → made k s ≡ h → way_by k (Some s) ≡ route.Call s → CallBy k s
   call_by kind.Call e w = (call_points e, λ g. call_nowhere (rw g at w))
   call_by kind.Command {s} e w = (call_points e, by (is_global_control s) refl w)
     where
@@ -215,7 +213,7 @@ module _ (h : Header) where
   AnswerBy kind.Answer a = AnswerPoints h (answerer_of a)
   AnswerBy kind.Other a = ⊥
 
-  answer_by_lem : (k : Kind) {a : Answering} → made k (answerer_of a) ≡ h → way_by k (Is (answerer_of a)) ≡ route.Answer a → AnswerBy k a
+  answer_by_lem : (k : Kind) {a : Answering} → made k (answerer_of a) ≡ h → way_by k (Some (answerer_of a)) ≡ route.Answer a → AnswerBy k a
   answer_by_lem kind.Call {a} e w = by_pick (λ r. r ≡ route.Answer a → ⊥) (is_global_control (answerer_of a)) (λ _. answer_nowhere) (λ _. call_answer) w
   answer_by_lem kind.Command {a} e w = by_pick (λ r. r ≡ route.Answer a → ⊥) (is_global_control (answerer_of a)) (λ _. call_answer) (λ _. answer_nowhere) w
   answer_by_lem kind.Answer e w = answer_points e
@@ -283,10 +281,10 @@ answer_header a da sa fc x =
 
 -- an opening call from the master's access point to the slave's, and a data answer back
 abbrev called : (slave master : ℕ) → Route
-called slave master = route_of (header_with 7 2 0x6D (Present slave) (Present master))
+called slave master = route_of (header_with 7 2 0x6D (Some slave) (Some master))
 
 abbrev answered : (slave master : ℕ) → Route
-answered slave master = route_of (header_with 2 7 0x0A (Present master) (Present slave))
+answered slave master = route_of (header_with 2 7 0x0A (Some master) (Some slave))
 
 pub record Pairs : Type 0 where
   pub dpv1 : (called 51 51 ≡ route.Call service.Dpv1) × (answered 51 51 ≡ route.Answer answering.Dpv1)
@@ -300,9 +298,9 @@ pub record Pairs : Type 0 where
   pub set_prm : (called 61 62 ≡ route.Call service.SetPrm) × (answered 61 62 ≡ route.Nowhere)
   pub chk_cfg : (called 62 62 ≡ route.Call service.ChkCfg) × (answered 62 62 ≡ route.Nowhere)
   -- Global_Control's own function, and Data_Exchange without access points, both ways
-  pub function_6_broadcast : route_of (header_with 127 2 0x46 (Present 58) (Present 62)) ≡ route.Call service.GlobalControl
-  pub no_access_point : route_of (header_with 7 2 0x5D Absent Absent) ≡ route.Call service.DataExchange
-  pub no_access_point_back : route_of (header_with 2 7 0x08 Absent Absent) ≡ route.Answer answering.DataExchange
+  pub function_6_broadcast : route_of (header_with 127 2 0x46 (Some 58) (Some 62)) ≡ route.Call service.GlobalControl
+  pub no_access_point : route_of (header_with 7 2 0x5D None None) ≡ route.Call service.DataExchange
+  pub no_access_point_back : route_of (header_with 2 7 0x08 None None) ≡ route.Answer answering.DataExchange
 
 pub pairs_routed : Pairs
 unfolding route_of kind_of class_of look services

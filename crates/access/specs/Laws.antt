@@ -1,16 +1,13 @@
 -- The words of the laws of every route: a service's access points name it and no other, a header made for a service leads to it,
 -- and answers come from few access points.
-use Rattle.std.specs.Prelude.{◌≡◌, Bool, true, false, List, [], ◌∷◌}
+use Rattle.std.specs.Prelude.{◌≡◌, Bool, true, false, List, [], ◌∷◌, Some, None}
 use Rattle.octets.specs.Choice.{one_of}
 use Rattle.fdl.specs.declared.telegram.Header.{Header}
-use Rattle.fdl.specs.declared.telegram.Sap.{Sap}
-use Rattle.fdl.specs.declared.telegram.Sap.TheVariants.{Absent, Present}
-use Rattle.access.specs.Table.{points_of}
+use Rattle.fdl.specs.Sap.{Sap}
+use Rattle.access.specs.Table.{points_of, Named}
 use Rattle.access.specs.Route.{points_with, answerer_of, header_by, header_of}
 use Rattle.access.specs.declared.table.Service.{Service}
 use Rattle.access.specs.declared.table.Row.{Row}
-use Rattle.access.specs.declared.table.Named.{Named}
-use Rattle.access.specs.declared.table.Named.TheVariants.{Is, Nothing}
 use Rattle.access.specs.declared.route.Kind.{Kind}
 use Rattle.access.specs.declared.route.Route.{Route}
 use Rattle.access.specs.declared.route.Route.TheVariants as route
@@ -21,8 +18,8 @@ Each Q (r ∷ rows) = Q r × Each Q rows
 
 -- a service that is named has these access points
 abbrev pub Points-of : (slave master : Sap) → Named → Type 0
-Points-of slave master (Is s) = points_of s ≡ points_with slave master
-Points-of slave master Nothing = Unit
+Points-of slave master (Some s) = points_of s ≡ points_with slave master
+Points-of slave master None = Unit
 
 -- the route leads to the service, or nowhere
 abbrev pub Leads : Service → Route → Type 0
@@ -45,10 +42,10 @@ Again h route.Nowhere = Unit
 -- ---- answers
 -- the access points, the slave's and the master's, from which an answer may come
 abbrev pub answers_at : (slave master : Sap) → Bool
-answers_at Absent Absent = true
-answers_at Absent (Present master) = false
-answers_at (Present slave) Absent = false
-answers_at (Present slave) (Present master) = one_of slave (51 ∷ 56 ∷ 57 ∷ 59 ∷ 60 ∷ [])
+answers_at None None = true
+answers_at None (Some master) = false
+answers_at (Some slave) None = false
+answers_at (Some slave) (Some master) = one_of slave (51 ∷ 56 ∷ 57 ∷ 59 ∷ 60 ∷ [])
 
 abbrev pub Comes : Header → Route → Type 0
 Comes h (route.Call s) = Unit

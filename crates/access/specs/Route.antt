@@ -1,19 +1,16 @@
 -- Which service a telegram's header names, and which way it goes (document 01, "Services by access point"). What goes nowhere
 -- gets 10.
-use Rattle.std.specs.Prelude.{ℕ, ◌%◌, Bool, true, false, eqb}
+use Rattle.std.specs.Prelude.{ℕ, ◌%◌, Bool, true, false, eqb, Some, None}
 use Rattle.octets.specs.Choice.{pick}
 use Rattle.function_code.specs.Code.{class_of}
 use Rattle.function_code.specs.declared.code.Class.{Class}
 use Rattle.function_code.specs.declared.code.Class.TheVariants as class
 use Rattle.fdl.specs.declared.telegram.Header.{Header}
-use Rattle.fdl.specs.declared.telegram.Sap.{Sap}
-use Rattle.fdl.specs.declared.telegram.Sap.TheVariants.{Absent, Present}
-use Rattle.access.specs.Table.{look, services, points_of}
+use Rattle.fdl.specs.Sap.{Sap}
+use Rattle.access.specs.Table.{look, services, points_of, Named}
 use Rattle.access.specs.declared.table.Service.{Service}
 use Rattle.access.specs.declared.table.Service.TheVariants as service
 use Rattle.access.specs.declared.table.Points.{Points}
-use Rattle.access.specs.declared.table.Named.{Named}
-use Rattle.access.specs.declared.table.Named.TheVariants.{Is, Nothing}
 use Rattle.access.specs.declared.route.Kind.{Kind}
 use Rattle.access.specs.declared.route.Kind.TheVariants as kind
 use Rattle.access.specs.declared.route.Answering.{Answering}
@@ -24,10 +21,10 @@ use Rattle.access.specs.declared.route.Route.TheVariants as route
 -- ---- the access points: no access point is Data_Exchange, one of two is nothing
 
 abbrev pub named_by : (slave master : Sap) → Named
-named_by Absent Absent = Is service.DataExchange
-named_by Absent (Present master) = Nothing
-named_by (Present slave) Absent = Nothing
-named_by (Present slave) (Present master) = look slave master services
+named_by None None = Some service.DataExchange
+named_by None (Some master) = None
+named_by (Some slave) None = None
+named_by (Some slave) (Some master) = look slave master services
 
 -- ---- the function code: opening and counted calls, call functions 4 and 6, data answers, and no other
 
@@ -62,13 +59,13 @@ is_global_control service.ChkCfg = false
 
 -- an opening or counted call: not Global_Control, which has functions 4 and 6 alone
 abbrev pub call_route : Named → Route
-call_route Nothing = route.Nowhere
-call_route (Is s) = pick (is_global_control s) route.Nowhere (route.Call s)
+call_route None = route.Nowhere
+call_route (Some s) = pick (is_global_control s) route.Nowhere (route.Call s)
 
 -- functions 4 and 6: Global_Control alone
 abbrev pub command_route : Named → Route
-command_route Nothing = route.Nowhere
-command_route (Is s) = pick (is_global_control s) (route.Call s) route.Nowhere
+command_route None = route.Nowhere
+command_route (Some s) = pick (is_global_control s) (route.Call s) route.Nowhere
 
 -- the service that answers
 abbrev pub answerer_of : Answering → Service
@@ -94,8 +91,8 @@ answer_from service.SetPrm = route.Nowhere
 answer_from service.ChkCfg = route.Nowhere
 
 abbrev pub answer_route : Named → Route
-answer_route Nothing = route.Nowhere
-answer_route (Is s) = answer_from s
+answer_route None = route.Nowhere
+answer_route (Some s) = answer_from s
 
 -- ---- the whole
 
@@ -139,4 +136,4 @@ header_of s da sa fc = header_by (kind_of fc) da sa fc (points_of s)
 
 -- and the route of that header, from the service and the code alone (law `header_route`)
 unfoldable pub service_route : Service → (fc : ℕ) → Route
-service_route s fc = way_by (kind_of fc) (Is s)
+service_route s fc = way_by (kind_of fc) (Some s)

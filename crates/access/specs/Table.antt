@@ -1,14 +1,15 @@
 -- The services and the list of their access points (document 01, "Services by access point"): a slave's access point, the master's, and
 -- the service.
-use Rattle.std.specs.Prelude.{ℕ, List, [], ◌∷◌, eqb, get_or}
-use Rattle.fdl.specs.declared.telegram.Sap.TheVariants.{Absent, Present}
+use Rattle.std.specs.Prelude.{ℕ, List, [], ◌∷◌, eqb, get_or, Some, None, Option}
 use Rattle.octets.specs.Choice.{pick}
 use Rattle.access.specs.declared.table.Service.{Service}
 use Rattle.access.specs.declared.table.Service.TheVariants as service
 use Rattle.access.specs.declared.table.Row.{Row}
 use Rattle.access.specs.declared.table.Points.{Points}
-use Rattle.access.specs.declared.table.Named.{Named}
-use Rattle.access.specs.declared.table.Named.TheVariants.{Is, Nothing}
+
+-- the service that a pair of access points names, if it names one
+abbrev pub Named : Type 0
+Named = Option Service
 
 -- ---- the access points of each service
 
@@ -61,9 +62,9 @@ services =
 
 -- the service of the first row with this pair
 unfoldable pub look : (slave master : ℕ) → List Row → Named
-look slave master [] = Nothing
+look slave master [] = None
 look slave master (r ∷ rows) =
-    pick (eqb r.slave slave) (pick (eqb r.master master) (Is r.service) (look slave master rows)) (look slave master rows)
+    pick (eqb r.slave slave) (pick (eqb r.master master) (Some r.service) (look slave master rows)) (look slave master rows)
 
 -- the row at a place of the list
 unfoldable pub row_at : ℕ → Row
@@ -72,10 +73,10 @@ row_at i = get_or services i (row_of service.DataExchange)
 -- ---- the access points of a service: those of its row (law `points_named`)
 
 abbrev pub points_in : Row → Points
-points_in r = record { slave = Present r.slave; master = Present r.master }
+points_in r = record { slave = Some r.slave; master = Some r.master }
 
 abbrev pub points_of : Service → Points
-points_of service.DataExchange = record { slave = Absent; master = Absent }
+points_of service.DataExchange = record { slave = None; master = None }
 points_of service.Dpv1 = points_in (row_of service.Dpv1)
 points_of service.ExtUserPrm = points_in (row_of service.ExtUserPrm)
 points_of service.SetSlaveAdr = points_in (row_of service.SetSlaveAdr)

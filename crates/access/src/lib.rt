@@ -7,6 +7,6 @@ mod table;
 
 pub use route::{Answering, Kind, Route};
 pub use table::{
-    CHK_CFG, DATA_EXCHANGE, DPV1, EXT_USER_PRM, GET_CFG, GLOBAL_CONTROL, MASTER, Named, Points,
-    RD_INP, RD_OUTP, Row, SET_PRM, SET_SLAVE_ADR, SLAVE_DIAG, Service,
+    CHK_CFG, DATA_EXCHANGE, DPV1, EXT_USER_PRM, GET_CFG, GLOBAL_CONTROL, MASTER, Points, RD_INP,
+    RD_OUTP, Row, SET_PRM, SET_SLAVE_ADR, SLAVE_DIAG, Service,
 };

@@ -2,7 +2,7 @@
 use crate::table::Service;
 
 // What a function code may carry: a service's call, Global_Control, a service's answer, or none.
-#[derive(Clone, Copy)]
+#[derive(Clone, Copy, PartialEq, Eq)]
 pub enum Kind {
     Call,
     Command,

@@ -2,7 +2,7 @@
 use fdl::Sap;
 
 // The services of DP. Data_Exchange alone has no access points.
-#[derive(Clone, Copy)]
+#[derive(Clone, Copy, PartialEq, Eq)]
 pub enum Service {
     DataExchange,
     Dpv1,
@@ -49,13 +49,6 @@ pub struct Row {
     pub slave: u8,
     pub master: u8,
     pub service: Service,
-}
-
-// The service that a pair of access points names.
-#[derive(Clone, Copy)]
-pub enum Named {
-    Is(Service),
-    Nothing,
 }
 
 // The access points of a service, the slave's and the master's.

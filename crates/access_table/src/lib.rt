@@ -6,8 +6,8 @@ ghost use Rattle.std.specs.Prelude.{◌≡◌, ◌<◌};
 ghost use Rattle.access.specs.Table.{look, services, points_in, row_at, points_of};
 
 use access::{
-    CHK_CFG, DPV1, EXT_USER_PRM, GET_CFG, GLOBAL_CONTROL, MASTER, Named, Points, RD_INP, RD_OUTP,
-    Row, SET_PRM, SET_SLAVE_ADR, SLAVE_DIAG, Service,
+    CHK_CFG, DPV1, EXT_USER_PRM, GET_CFG, GLOBAL_CONTROL, MASTER, Points, RD_INP, RD_OUTP, Row,
+    SET_PRM, SET_SLAVE_ADR, SLAVE_DIAG, Service,
 };
 use fdl::Sap;
 
@@ -69,19 +69,16 @@ const SERVICES: [Row; 10] = [
 // first, so that the first row with the pair is the one that counts. The rows are taken once, ahead of
 // the loop: the compiler then makes one test of the slave's access point of all of them, and no list
 // stands in the frame.
-pub fn find(slave: u8, master: u8) -> Named
+pub fn find(slave: u8, master: u8) -> Option<Service>
     ensures { result ≡ look slave master services }
 {
     let rows = SERVICES;
-    let mut named = Named::Nothing;
-    let mut i: usize = 10;
-    while 0 < i {
-        i -= 1;
-        let row = rows[i];
+    let mut named = None;
+    for row in rows.iter().rev() {
         if row.slave == slave {
             if row.master == master {
                 let service = row.service;
-                named = Named::Is(service);
+                named = Some(service);
             }
         }
     }
@@ -94,8 +91,8 @@ fn points_at(i: usize) -> Points
 {
     let row = SERVICES[i];
     Points {
-        slave: Sap::Present(row.slave),
-        master: Sap::Present(row.master),
+        slave: Some(row.slave),
+        master: Some(row.master),
     }
 }
 
@@ -105,8 +102,8 @@ pub fn points_of(service: Service) -> Points
 {
     match service {
         Service::DataExchange => Points {
-            slave: Sap::Absent,
-            master: Sap::Absent,
+            slave: None,
+            master: None,
         },
         Service::Dpv1 => points_at(0),
         Service::ExtUserPrm => points_at(1),

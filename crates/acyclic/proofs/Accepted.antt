@@ -1,5 +1,5 @@
 -- Which bytes are accepted as a call and which as an answer: exactly those that are one in plain arithmetic.
-use Rattle.std.specs.Prelude.{◌≡◌, refl, true, List, [], ◌∷◌, ◌↔◌, ℕ}
+use Rattle.std.specs.Prelude.{◌≡◌, refl, true, List, [], ◌∷◌, ◌↔◌, ℕ, Ok, Err}
 use Rattle.std.proofs.Common.{subst}
 use Rattle.octets.proofs.Choice.{never}
 use Rattle.octets.specs.Part.{part_of}
@@ -11,24 +11,22 @@ use Rattle.acyclic.specs.Answers as answers
 use Rattle.acyclic.specs.Bytes.{call_accepted, answer_accepted, CallBytes, AnswerBytes}
 use Rattle.acyclic.proofs.Lemmas.Bytes.{call_bytes, answer_bytes, call_read, answer_read}
 use Rattle.acyclic.proofs.Laws.{call_writes_back, answer_writes_back}
-use Rattle.acyclic.specs.declared.calls.CallReading.{CallReading}
-use Rattle.acyclic.specs.declared.calls.CallReading.TheVariants as call-reading
-use Rattle.acyclic.specs.declared.answers.AnswerReading.{AnswerReading}
-use Rattle.acyclic.specs.declared.answers.AnswerReading.TheVariants as answer-reading
+use Rattle.acyclic.specs.Calls.{CallReading}
+use Rattle.acyclic.specs.Answers.{AnswerReading}
 
 module _ (s : List ℕ) where
   -- what is read may be written, from fields that the bytes have
   by_call : (r : CallReading) → calls.read_call_of s ≡ r → call_accepted r ≡ true → CallBytes s
-  by_call (call-reading.Call c start len) e a =
+  by_call (Ok found) e a =
       let w = call_writes_back s e in
-      subst CallBytes w.1 (call_bytes c (part_of s start len) w.0)
-  by_call (call-reading.Refused r) e a = absurd (never a)
+      subst CallBytes w.1 (call_bytes found.fields (part_of s found.start found.len) w.0)
+  by_call (Err r) e a = absurd (never a)
 
   by_answer : (r : AnswerReading) → answers.read_answer_of s ≡ r → answer_accepted r ≡ true → AnswerBytes s
-  by_answer (answer-reading.Answer x start len) e a =
+  by_answer (Ok found) e a =
       let w = answer_writes_back s e in
-      subst AnswerBytes w.1 (answer_bytes x (part_of s start len) w.0)
-  by_answer (answer-reading.Refused r) e a = absurd (never a)
+      subst AnswerBytes w.1 (answer_bytes found.fields (part_of s found.start found.len) w.0)
+  by_answer (Err r) e a = absurd (never a)
 
   -- A call is accepted exactly when it is empty, or its number, its length and its length byte are as the number asks.
   pub call_accepted_lem : call_accepted (calls.read_call_of s) ≡ true ↔ CallBytes s

@@ -1,5 +1,5 @@
 -- The customer's second demand for calls and answers, over every case, and what a reading says of the first byte and of the data.
-use Rattle.std.specs.Prelude.{ℕ, ◌+◌, ◌≤◌, ◌≡◌, List, [], ◌∷◌, length, get_or, take}
+use Rattle.std.specs.Prelude.{ℕ, ◌+◌, ◌≤◌, ◌≡◌, List, [], ◌∷◌, length, get_or, take, Ok}
 use Rattle.std.proofs.Common.{sym, ap, ◌∙◌, subst, arith}
 use Rattle.octets.specs.Part.{part_of}
 use Rattle.octets.specs.Front.{Verdict, fine, fault}
@@ -15,17 +15,15 @@ use Rattle.acyclic.proofs.Lemmas.Answers as answer-lemmas
 use Rattle.acyclic.specs.declared.numbers.Function.{Function}
 use Rattle.acyclic.specs.declared.calls.Call.{Call}
 use Rattle.acyclic.specs.declared.calls.Call.TheVariants as call
-use Rattle.acyclic.specs.declared.calls.CallReading.TheVariants as call-reading
 use Rattle.acyclic.specs.declared.answers.Answer.{Answer}
 use Rattle.acyclic.specs.declared.answers.Answer.TheVariants as answer
-use Rattle.acyclic.specs.declared.answers.AnswerReading.TheVariants as answer-reading
 
 -- ---- what is written
 
 module _ (c : Call) (part : List ℕ) where
   -- (a) What is written reads back as the same fields and the same data.
   pub call_reads_back : calls.verdict_for c part ≡ fine → let start = length (calls.fixed_bytes c (length part)) in
-      (calls.read_call_of (calls.bytes_for c part) ≡ call-reading.Call c start (length part)) × (part_of (calls.bytes_for c part) start (length part) ≡ part)
+      (calls.read_call_of (calls.bytes_for c part) ≡ Ok (record { fields = c; start = start; len = length part })) × (part_of (calls.bytes_for c part) start (length part) ≡ part)
   call_reads_back e = (call-lemmas.back c part e, part_behind (calls.fixed_bytes c (length part)) part)
 
   -- What the writer refuses, the reader would refuse with the same number, a poll excepted: it has no byte to be refused by.
@@ -36,7 +34,7 @@ module _ (c : Call) (part : List ℕ) where
 module _ (x : Answer) (part : List ℕ) where
   -- (a)
   pub answer_reads_back : answers.verdict_for x part ≡ fine → let start = length (answers.fixed_bytes x (length part)) in
-      (answers.read_answer_of (answers.bytes_for x part) ≡ answer-reading.Answer x start (length part)) × (part_of (answers.bytes_for x part) start (length part) ≡ part)
+      (answers.read_answer_of (answers.bytes_for x part) ≡ Ok (record { fields = x; start = start; len = length part })) × (part_of (answers.bytes_for x part) start (length part) ≡ part)
   answer_reads_back e =
       (answer-lemmas.alike x part ∙ ap (λ (v : Verdict). answers.answer_at (length (answers.fixed_bytes x (length part))) (length part) v x) e, part_behind (answers.fixed_bytes x (length part)) part)
 
@@ -47,7 +45,7 @@ module _ (x : Answer) (part : List ℕ) where
 
 -- ---- what is read
 
-module _ (s : List ℕ) {c : Call} {start len : ℕ} (e : calls.read_call_of s ≡ call-reading.Call c start len) where
+module _ (s : List ℕ) {c : Call} {start len : ℕ} (e : calls.read_call_of s ≡ Ok (record { fields = c; start = start; len = len })) where
   -- (b) What is read may be written, and gives the same bytes again.
   pub call_writes_back : (calls.verdict_for c (part_of s start len) ≡ fine) × (calls.bytes_for c (part_of s start len) ≡ s)
   call_writes_back = let a = subst (call-lemmas.AgainIn s) e (call-lemmas.again s) in (a.0, a.1)
@@ -60,7 +58,7 @@ module _ (s : List ℕ) {c : Call} {start len : ℕ} (e : calls.read_call_of s �
   pub call_named_by_first_byte : take 1 s ≡ call_number c
   call_named_by_first_byte = ap (take 1) (sym call_writes_back.1) ∙ call-lemmas.first c (part_of s start len) call_writes_back.0
 
-module _ (s : List ℕ) {x : Answer} {start len : ℕ} (e : answers.read_answer_of s ≡ answer-reading.Answer x start len) where
+module _ (s : List ℕ) {x : Answer} {start len : ℕ} (e : answers.read_answer_of s ≡ Ok (record { fields = x; start = start; len = len })) where
   -- (b)
   pub answer_writes_back : (answers.verdict_for x (part_of s start len) ≡ fine) × (answers.bytes_for x (part_of s start len) ≡ s)
   answer_writes_back = let a = subst (answer-lemmas.AgainIn s) e (answer-lemmas.again s) in (a.0, a.1)
@@ -75,16 +73,16 @@ module _ (s : List ℕ) {x : Answer} {start len : ℕ} (e : answers.read_answer_
 
 -- A positive write answer is read only from 5F.
 pub positive_write_only_from_5_f : (s : List ℕ) {slot index written start len : ℕ}
-    → answers.read_answer_of s ≡ answer-reading.Answer (answer.Write slot index written) start len → get_or s 0 0 ≡ write_number
+    → answers.read_answer_of s ≡ Ok (record { fields = answer.Write slot index written; start = start; len = len }) → get_or s 0 0 ≡ write_number
 positive_write_only_from_5_f s e = answer_named_by_first_byte s e
 
 -- A negative answer is read only from its function's number plus 80 hex, so no reading takes one of the two for the other.
 pub negative_only_with_80 : (s : List ℕ) {f : Function} {decode code1 code2 start len : ℕ}
-    → answers.read_answer_of s ≡ answer-reading.Answer (answer.Negative f decode code1 code2) start len → get_or s 0 0 ≡ 128 + function_number f
+    → answers.read_answer_of s ≡ Ok (record { fields = answer.Negative f decode code1 code2; start = start; len = len }) → get_or s 0 0 ≡ 128 + function_number f
 negative_only_with_80 s e = answer_named_by_first_byte s e
 
 -- The data of a write call are as many as its length byte says, 1..240.
-pub write_call_counted : (s : List ℕ) {slot index start len : ℕ} → calls.read_call_of s ≡ call-reading.Call (call.Write slot index) start len
+pub write_call_counted : (s : List ℕ) {slot index start len : ℕ} → calls.read_call_of s ≡ Ok (record { fields = call.Write slot index; start = start; len = len })
     → (get_or s 3 0 ≡ len) × (1 ≤ len) × (len ≤ 240)
 write_call_counted s {start = start} {len = len} e =
     let w = call_writes_back s e in
@@ -95,13 +93,13 @@ write_call_counted s {start = start} {len = len} e =
 -- ---- how large a reading is
 
 -- At most four bytes stand before the data, and the data are at most 240.
-pub call_small : (s : List ℕ) {c : Call} {start len : ℕ} → calls.read_call_of s ≡ call-reading.Call c start len → (start ≤ 4) × (len ≤ 240)
+pub call_small : (s : List ℕ) {c : Call} {start len : ℕ} → calls.read_call_of s ≡ Ok (record { fields = c; start = start; len = len }) → (start ≤ 4) × (len ≤ 240)
 call_small s {c} {start} {len} e =
     let w = call_writes_back s e in
     small s (calls.fixed_bytes c (length (part_of s start len))) start len (call_data_inside s e) w.1 (call_fits c _ w.0)
 
 -- the same of answers
-pub answer_small : (s : List ℕ) {x : Answer} {start len : ℕ} → answers.read_answer_of s ≡ answer-reading.Answer x start len → (start ≤ 4) × (len ≤ 240)
+pub answer_small : (s : List ℕ) {x : Answer} {start len : ℕ} → answers.read_answer_of s ≡ Ok (record { fields = x; start = start; len = len }) → (start ≤ 4) × (len ≤ 240)
 answer_small s {x} {start} {len} e =
     let w = answer_writes_back s e in
     small s (answers.fixed_bytes x (length (part_of s start len))) start len (answer_data_inside s e) w.1 (answer_fits x _ w.0)

@@ -1,13 +1,12 @@
 -- Every refusal of a DPV1 call or answer, read or to be written, has a number of document 01's table.
-use Rattle.std.specs.Prelude.{ℕ, ◌≡◌, refl, true, List}
+use Rattle.std.specs.Prelude.{ℕ, ◌≡◌, refl, true, List, Some, None}
 use Rattle.octets.proofs.Choice.{through, alike}
 use Rattle.octets.specs.Refusals.{listed, numbered}
 use Rattle.octets.proofs.Refusals.{judged_numbered}
 use Rattle.acyclic.specs.Forms.{alone_of, ranged_of, counted_of, counted_as_of, negative_of, by_number, where_allowed}
 use Rattle.acyclic.specs.Calls as calls
 use Rattle.acyclic.specs.Answers as answers
-use Rattle.acyclic.specs.declared.numbers.Failed.{Failed}
-use Rattle.acyclic.specs.declared.numbers.Failed.TheVariants as failed
+use Rattle.acyclic.specs.Numbers.{Failed}
 use Rattle.acyclic.specs.declared.calls.Call.{Call}
 use Rattle.acyclic.specs.declared.calls.Call.TheVariants as call
 use Rattle.acyclic.specs.declared.answers.Answer.{Answer}
@@ -38,8 +37,8 @@ negative decode code1 count = simp (through numbered, alike)
 -- ---- reading
 negative_for_lem : (f : Failed) (decode code1 code2 count : ℕ) → numbered (answer_verdict (answers.negative_for f decode code1 code2 count)) ≡ true
 unfolding listed
-negative_for_lem (failed.Is f) decode code1 code2 count = simp (judged_numbered answer_verdict answers.refused (λ k. refl), alike, negative)
-negative_for_lem failed.Nothing decode code1 code2 count = refl
+negative_for_lem (Some f) decode code1 code2 count = simp (judged_numbered answer_verdict answers.refused (λ k. refl), alike, negative)
+negative_for_lem None decode code1 code2 count = refl
 
 pub call_numbered : (s : List ℕ) → numbered (call_verdict (calls.read_call_of s)) ≡ true
 unfolding calls.read_call_of where_allowed by_number calls.four_of listed

@@ -1,31 +1,32 @@
 -- Answers (document 01, "DPV1"): reading and writing.
-use Rattle.std.specs.Prelude.{ℕ, List, [], ◌∷◌, ◌++◌, length, eqb}
+use Rattle.std.specs.Prelude.{ℕ, List, [], ◌∷◌, ◌++◌, length, eqb, Ok, Err, Some, None, Result}
 use Rattle.octets.specs.Choice.{pick}
 use Rattle.octets.specs.Front.{Verdict}
 use Rattle.octets.specs.Fixed.{judged}
-use Rattle.acyclic.specs.Numbers.{read_number, write_number, alarm_ack_number, transport_number, failed_by, answer_number, allowed_in_answers}
+use Rattle.acyclic.specs.Numbers.{read_number, write_number, alarm_ack_number, transport_number, failed_by, answer_number, allowed_in_answers, Failed}
 use Rattle.acyclic.specs.Forms.{alone_of, ranged_of, counted_of, counted_as_of, negative_of, by_number, where_allowed}
-use Rattle.acyclic.specs.declared.numbers.Failed.{Failed}
-use Rattle.acyclic.specs.declared.numbers.Failed.TheVariants as failed
 use Rattle.acyclic.specs.declared.answers.Answer.{Answer}
 use Rattle.acyclic.specs.declared.answers.Answer.TheVariants as answer
-use Rattle.acyclic.specs.declared.answers.AnswerReading.{AnswerReading}
-use Rattle.acyclic.specs.declared.answers.AnswerReading.TheVariants as reading
+use Rattle.octets.specs.declared.Read.{Read}
+
+-- what reading answers: the answer and where its data stand, or a refusal's number
+abbrev pub AnswerReading : Type 0
+AnswerReading = Result (Read Answer) ℕ
 
 -- ---- reading
 
 abbrev pub refused : ℕ → AnswerReading
-refused k = reading.Refused (record { number = k })
+refused k = Err k
 
 -- the answer x with count bytes from start, where the verdict lets it stand
 abbrev pub answer_at : (start count : ℕ) → Verdict → Answer → AnswerReading
-answer_at start count v x = judged refused v (reading.Answer x start count)
+answer_at start count v x = judged refused v (Ok (record { fields = x; start = start; len = count }))
 
 -- a negative answer for the function that its number names: decode, code 1 and code 2, and count bytes behind them; a number that
 -- names none is reserved
 abbrev pub negative_for : Failed → (decode code1 code2 count : ℕ) → AnswerReading
-negative_for (failed.Is f) decode code1 code2 count = answer_at 4 count (negative_of decode code1 count) (answer.Negative f decode code1 code2)
-negative_for failed.Nothing decode code1 code2 count = refused 28
+negative_for (Some f) decode code1 code2 count = answer_at 4 count (negative_of decode code1 count) (answer.Negative f decode code1 code2)
+negative_for None decode code1 code2 count = refused 28
 
 -- how each number is read whose answer has four fixed bytes: n, a, b and l, and count bytes behind them
 unfoldable pub four_of : (n a b l count : ℕ) → AnswerReading

@@ -1,20 +1,18 @@
 -- The bytes of a call and those of an answer (document 01, "DPV1"), in plain arithmetic. Numbers are hexadecimal there, and here
 -- beside each constructor. Byte 3 is the length byte.
-use Rattle.std.specs.Prelude.{ℕ, ◌+◌, ◌/◌, ◌%◌, ◌≤◌, ◌≡◌, List, Bool, true, false, length, get_or}
-use Rattle.acyclic.specs.declared.calls.CallReading.{CallReading}
-use Rattle.acyclic.specs.declared.calls.CallReading.TheVariants as call-reading
-use Rattle.acyclic.specs.declared.answers.AnswerReading.{AnswerReading}
-use Rattle.acyclic.specs.declared.answers.AnswerReading.TheVariants as answer-reading
+use Rattle.std.specs.Prelude.{ℕ, ◌+◌, ◌/◌, ◌%◌, ◌≤◌, ◌≡◌, List, Bool, true, false, length, get_or, Ok, Err}
+use Rattle.acyclic.specs.Calls.{CallReading}
+use Rattle.acyclic.specs.Answers.{AnswerReading}
 
 -- ---- readings that are not refused
 
 abbrev pub call_accepted : CallReading → Bool
-call_accepted (call-reading.Call c start len) = true
-call_accepted (call-reading.Refused r) = false
+call_accepted (Ok found) = true
+call_accepted (Err r) = false
 
 abbrev pub answer_accepted : AnswerReading → Bool
-answer_accepted (answer-reading.Answer x start len) = true
-answer_accepted (answer-reading.Refused r) = false
+answer_accepted (Ok found) = true
+answer_accepted (Err r) = false
 
 -- ---- calls
 

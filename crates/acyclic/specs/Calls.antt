@@ -1,5 +1,5 @@
 -- Calls (document 01, "DPV1"): reading and writing.
-use Rattle.std.specs.Prelude.{ℕ, List, [], ◌∷◌, ◌++◌, length, eqb}
+use Rattle.std.specs.Prelude.{ℕ, List, [], ◌∷◌, ◌++◌, length, eqb, Ok, Err, Result}
 use Rattle.octets.specs.Choice.{pick}
 use Rattle.octets.specs.Front.{Verdict}
 use Rattle.octets.specs.Fixed.{judged}
@@ -7,17 +7,20 @@ use Rattle.acyclic.specs.Numbers.{read_number, write_number, alarm_ack_number, t
 use Rattle.acyclic.specs.Forms.{alone_of, ranged_of, counted_of, counted_as_of, by_number, where_allowed}
 use Rattle.acyclic.specs.declared.calls.Call.{Call}
 use Rattle.acyclic.specs.declared.calls.Call.TheVariants as call
-use Rattle.acyclic.specs.declared.calls.CallReading.{CallReading}
-use Rattle.acyclic.specs.declared.calls.CallReading.TheVariants as reading
+use Rattle.octets.specs.declared.Read.{Read}
+
+-- what reading answers: the call and where its data stand, or a refusal's number
+abbrev pub CallReading : Type 0
+CallReading = Result (Read Call) ℕ
 
 -- ---- reading
 
 abbrev pub refused : ℕ → CallReading
-refused k = reading.Refused (record { number = k })
+refused k = Err k
 
 -- the call c with count bytes from start, where the verdict lets it stand
 abbrev pub call_at : (start count : ℕ) → Verdict → Call → CallReading
-call_at start count v c = judged refused v (reading.Call c start count)
+call_at start count v c = judged refused v (Ok (record { fields = c; start = start; len = count }))
 
 -- how each number is read whose call has four fixed bytes: n, a, b and l, and count bytes behind them; one that none has is
 -- reserved
@@ -33,7 +36,7 @@ idle_of count = call_at 1 count (alone_of count) call.Idle
 
 -- an empty call is a poll
 unfoldable pub read_call_of : List ℕ → CallReading
-read_call_of s = where_allowed refused (reading.Call call.Poll 0 0) allowed_in_calls (by_number refused idle_of four_of s) s
+read_call_of s = where_allowed refused (Ok (record { fields = call.Poll; start = 0; len = 0 })) allowed_in_calls (by_number refused idle_of four_of s) s
 
 -- ---- writing
 

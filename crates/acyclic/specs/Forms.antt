@@ -6,13 +6,6 @@ use Rattle.octets.specs.Choice.{pick}
 use Rattle.octets.specs.Front.{Verdict, fine, fault}
 use Rattle.acyclic.specs.Numbers.{idle_number}
 use Rattle.acyclic.specs.Errors.{good_decode, good_code1}
-use Rattle.acyclic.specs.declared.forms.Check.{Check}
-use Rattle.acyclic.specs.declared.forms.Check.TheVariants.{Fine, Refused}
-
--- the verdict that a check came to
-abbrev pub verdict_in : Check → Verdict
-verdict_in Fine = fine
-verdict_in (Refused r) = fault r.number
 
 -- fixed bytes that are free, and no byte behind them
 unfoldable pub alone_of : (count : ℕ) → Verdict

@@ -1,15 +1,17 @@
 -- Function numbers (document 01, "DPV1"; hexadecimal there, and here beside each number): which number each case has, and
 -- which numbers are allowed in which way.
-use Rattle.std.specs.Prelude.{ℕ, ◌+◌, Bool, true, false, List, [], ◌∷◌, eqb}
+use Rattle.std.specs.Prelude.{ℕ, ◌+◌, Bool, true, false, List, [], ◌∷◌, eqb, Some, None, Option}
 use Rattle.octets.specs.Choice.{pick, ◌or◌}
 use Rattle.acyclic.specs.declared.numbers.Function.{Function}
 use Rattle.acyclic.specs.declared.numbers.Function.TheVariants as function
-use Rattle.acyclic.specs.declared.numbers.Failed.{Failed}
-use Rattle.acyclic.specs.declared.numbers.Failed.TheVariants as failed
 use Rattle.acyclic.specs.declared.calls.Call.{Call}
 use Rattle.acyclic.specs.declared.calls.Call.TheVariants as call
 use Rattle.acyclic.specs.declared.answers.Answer.{Answer}
 use Rattle.acyclic.specs.declared.answers.Answer.TheVariants as answer
+
+-- the function whose negative answer has a number, if one has
+abbrev pub Failed : Type 0
+Failed = Option Function
 
 -- 5E
 abbrev pub read_number : ℕ
@@ -44,10 +46,10 @@ negative_number f = 128 + function_number f
 -- the function whose negative answer has this number
 unfoldable pub failed_by : ℕ → Failed
 failed_by n =
-    pick (eqb n (negative_number function.Read)) (failed.Is function.Read)
-    (pick (eqb n (negative_number function.Write)) (failed.Is function.Write)
-    (pick (eqb n (negative_number function.AlarmAck)) (failed.Is function.AlarmAck)
-    (pick (eqb n (negative_number function.Transport)) (failed.Is function.Transport) failed.Nothing)))
+    pick (eqb n (negative_number function.Read)) (Some function.Read)
+    (pick (eqb n (negative_number function.Write)) (Some function.Write)
+    (pick (eqb n (negative_number function.AlarmAck)) (Some function.AlarmAck)
+    (pick (eqb n (negative_number function.Transport)) (Some function.Transport) None)))
 
 -- ---- each case
 
@@ -75,8 +77,8 @@ allowed_in_calls n =
     eqb n read_number or eqb n write_number or eqb n alarm_ack_number or eqb n idle_number or eqb n transport_number
 
 abbrev pub is_failed : Failed → Bool
-is_failed (failed.Is f) = true
-is_failed failed.Nothing = false
+is_failed (Some f) = true
+is_failed None = false
 
 abbrev pub allowed_in_answers : ℕ → Bool
 allowed_in_answers n = allowed_in_calls n or is_failed (failed_by n)

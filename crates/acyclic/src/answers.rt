@@ -1,6 +1,5 @@
 // Answers: what a slave gives back.
 use crate::numbers::Function;
-use octets::Refusal;
 
 // A read and a data transport have data, which are lent bytes; their count is the length byte. A
 // negative answer says why a function was not performed.
@@ -31,16 +30,4 @@ pub enum Answer {
         code1: u8,
         code2: u8,
     },
-}
-
-// What bytes are. The data are the len bytes from start, which `octets::part` hands back: none, at the
-// end of the bytes, where the answer has none.
-#[derive(Drop)]
-pub enum AnswerReading {
-    Answer {
-        answer: Answer,
-        start: usize,
-        len: usize,
-    },
-    Refused(Refusal),
 }

@@ -1,7 +1,7 @@
 // Calls: what a master asks of a slave.
-use octets::Refusal;
 
 // A write and a data transport have data, which are lent bytes; their count is the length byte.
+
 #[derive(Clone, Copy)]
 pub enum Call {
     Poll,
@@ -10,16 +10,4 @@ pub enum Call {
     AlarmAck { slot: u8, alarm: u8, specifier: u8 },
     Idle,
     Transport { slot: u8, index: u8 },
-}
-
-// What bytes are. The data are the len bytes from start, which `octets::part` hands back: none, at the
-// end of the bytes, where the call has none.
-#[derive(Drop)]
-pub enum CallReading {
-    Call {
-        call: Call,
-        start: usize,
-        len: usize,
-    },
-    Refused(Refusal),
 }

@@ -4,13 +4,11 @@
 
 mod answers;
 mod calls;
-mod forms;
 mod numbers;
 
-pub use answers::{Answer, AnswerReading};
-pub use calls::{Call, CallReading};
-pub use forms::Check;
+pub use answers::Answer;
+pub use calls::Call;
 pub use numbers::{
-    ALARM_ACK, Failed, Function, IDLE, NEGATIVE_ALARM_ACK, NEGATIVE_READ, NEGATIVE_TRANSPORT,
+    ALARM_ACK, Function, IDLE, NEGATIVE_ALARM_ACK, NEGATIVE_READ, NEGATIVE_TRANSPORT,
     NEGATIVE_WRITE, READ, TRANSPORT, WRITE,
 };

@@ -1,6 +1,7 @@
 // Function numbers, and the functions whose answers can be negative.
 
 // The first byte of calls and positive answers.
+
 pub const READ: u8 = 0x5E;
 
 pub const WRITE: u8 = 0x5F;
@@ -29,11 +30,4 @@ pub enum Function {
     Write,
     AlarmAck,
     Transport,
-}
-
-// The function whose negative answer has a number.
-#[derive(Drop)]
-pub enum Failed {
-    Is(Function),
-    Nothing,
 }

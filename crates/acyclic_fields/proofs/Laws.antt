@@ -1,14 +1,12 @@
 -- The four fields of a call or an answer name it again, and what four fields name has them in every place that it has.
-use Rattle.std.specs.Prelude.{ℕ, ◌≡◌, refl, List, [], ◌∷◌, get_or, take}
+use Rattle.std.specs.Prelude.{ℕ, ◌≡◌, refl, List, [], ◌∷◌, get_or, take, Some}
 use Rattle.std.proofs.Common.{subst, eqb-true}
 use Rattle.std.proofs.Math.Bool.{true}
 use Rattle.std.proofs.Math.Dec.{eqb}
 use Rattle.octets.proofs.Choice.{by_pick}
-use Rattle.acyclic.specs.Numbers.{read_number, write_number, alarm_ack_number, idle_number, transport_number, negative_number, failed_by}
+use Rattle.acyclic.specs.Numbers.{read_number, write_number, alarm_ack_number, idle_number, transport_number, negative_number, failed_by, Failed}
 use Rattle.acyclic.specs.declared.numbers.Function.{Function}
 use Rattle.acyclic.specs.declared.numbers.Function.TheVariants as function
-use Rattle.acyclic.specs.declared.numbers.Failed.{Failed}
-use Rattle.acyclic.specs.declared.numbers.Failed.TheVariants as failed
 use Rattle.acyclic.specs.declared.calls.Call.{Call}
 use Rattle.acyclic.specs.declared.calls.Call.TheVariants as call
 use Rattle.acyclic.specs.declared.answers.Answer.{Answer}
@@ -82,7 +80,7 @@ module _ (n a b d : ℕ) where
   unfolding failed_by
   as_negative =
       let P : Failed → Type 0 = λ x. AsAnswer (negative_named x a b d) in
-      let same : (f : Function) → eqb n (negative_number f) ≡ true → P (failed.Is f) = λ f e. rw (eqb-true n (negative_number f) e) in
+      let same : (f : Function) → eqb n (negative_number f) ≡ true → P (Some f) = λ f e. rw (eqb-true n (negative_number f) e) in
       by_pick P (eqb n (negative_number function.Read)) (same function.Read)
       (λ _. by_pick P (eqb n (negative_number function.Write)) (same function.Write)
       (λ _. by_pick P (eqb n (negative_number function.AlarmAck)) (same function.AlarmAck)

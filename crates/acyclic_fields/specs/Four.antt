@@ -1,10 +1,8 @@
 -- DPV1 calls and answers by their first four fields: the function number as it stands in the first byte, and three that each case has
 -- its own use for. A field that the case does not have is 0, and so is the number of a poll, which has no byte.
-use Rattle.std.specs.Prelude.{ℕ, List, [], ◌∷◌, eqb}
+use Rattle.std.specs.Prelude.{ℕ, List, [], ◌∷◌, eqb, Some, None}
 use Rattle.octets.specs.Choice.{pick}
-use Rattle.acyclic.specs.Numbers.{read_number, write_number, alarm_ack_number, idle_number, transport_number, negative_number, failed_by}
-use Rattle.acyclic.specs.declared.numbers.Failed.{Failed}
-use Rattle.acyclic.specs.declared.numbers.Failed.TheVariants as failed
+use Rattle.acyclic.specs.Numbers.{read_number, write_number, alarm_ack_number, idle_number, transport_number, negative_number, failed_by, Failed}
 use Rattle.acyclic.specs.declared.calls.Call.{Call}
 use Rattle.acyclic.specs.declared.calls.Call.TheVariants as call
 use Rattle.acyclic.specs.declared.answers.Answer.{Answer}
@@ -48,8 +46,8 @@ call_named n a b c =
 
 -- a negative answer for the function that its number names
 abbrev pub negative_named : Failed → (decode code1 code2 : ℕ) → Case
-negative_named (failed.Is f) decode code1 code2 = case.Answer (answer.Negative f decode code1 code2)
-negative_named failed.Nothing decode code1 code2 = case.Unknown
+negative_named (Some f) decode code1 code2 = case.Answer (answer.Negative f decode code1 code2)
+negative_named None decode code1 code2 = case.Unknown
 
 unfoldable pub answer_named : (n a b c : ℕ) → Case
 answer_named n a b c =

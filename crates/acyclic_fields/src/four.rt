@@ -3,7 +3,7 @@ ghost use Rattle.std.specs.Prelude.{◌≡◌};
 ghost use Rattle.acyclic.specs.Numbers.{failed_by};
 ghost use Rattle.acyclic_fields.specs.Four.{four_bytes, call_four, answer_four, call_named, negative_named, answer_named};
 
-use acyclic::{ALARM_ACK, Answer, Call, Failed, IDLE, READ, TRANSPORT, WRITE};
+use acyclic::{ALARM_ACK, Answer, Call, IDLE, READ, TRANSPORT, WRITE};
 use acyclic_forms::{failed_by, negative_number};
 
 // The first four fields: the number, and three that each case has its own use for.
@@ -99,13 +99,13 @@ fn negative_named(number: u8, decode: u8, code1: u8, code2: u8) -> Case
 {
     let failed = failed_by(number);
     match failed {
-        Failed::Is(function) => Case::Answer(Answer::Negative {
+        Some(function) => Case::Answer(Answer::Negative {
             function,
             decode,
             code1,
             code2,
         }),
-        Failed::Nothing => Case::Unknown,
+        None => Case::Unknown,
     }
 }
 

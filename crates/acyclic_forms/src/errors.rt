@@ -39,6 +39,7 @@ fn named_in(class: u8, code: u8) -> bool
 }
 
 // Error code 1 has a class and a code under PROFIBUS DP; under the others it is free.
+#[tactic(auto, unfolding(acyclic::specs::Errors::good_code1))]
 pub(crate) fn good_code1(decode: u8, code1: u8) -> bool
     ensures { result ≡ good_code1 decode code1 }
 {

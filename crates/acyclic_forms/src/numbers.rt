@@ -3,7 +3,7 @@ ghost use Rattle.std.specs.Prelude.{◌≡◌};
 ghost use Rattle.acyclic.specs.Numbers.{negative_number, failed_by, allowed_in_calls, allowed_in_answers};
 
 use acyclic::{
-    ALARM_ACK, Failed, Function, IDLE, NEGATIVE_ALARM_ACK, NEGATIVE_READ, NEGATIVE_TRANSPORT,
+    ALARM_ACK, Function, IDLE, NEGATIVE_ALARM_ACK, NEGATIVE_READ, NEGATIVE_TRANSPORT,
     NEGATIVE_WRITE, READ, TRANSPORT, WRITE,
 };
 
@@ -21,15 +21,15 @@ pub fn negative_number(function: Function) -> u8
 
 // The other way round: the function whose negative answer has this number.
 #[tactic(auto, unfolding(acyclic::specs::Numbers::failed_by))]
-pub fn failed_by(number: u8) -> Failed
+pub fn failed_by(number: u8) -> Option<Function>
     ensures { result ≡ failed_by number }
 {
     match number {
-        NEGATIVE_READ => Failed::Is(Function::Read),
-        NEGATIVE_WRITE => Failed::Is(Function::Write),
-        NEGATIVE_ALARM_ACK => Failed::Is(Function::AlarmAck),
-        NEGATIVE_TRANSPORT => Failed::Is(Function::Transport),
-        _ => Failed::Nothing,
+        NEGATIVE_READ => Some(Function::Read),
+        NEGATIVE_WRITE => Some(Function::Write),
+        NEGATIVE_ALARM_ACK => Some(Function::AlarmAck),
+        NEGATIVE_TRANSPORT => Some(Function::Transport),
+        _ => None,
     }
 }
 
@@ -55,7 +55,7 @@ pub fn allowed_in_answers(number: u8) -> bool
     }
     let failed = failed_by(number);
     match failed {
-        Failed::Is(_) => true,
-        Failed::Nothing => false,
+        Some(_) => true,
+        None => false,
     }
 }

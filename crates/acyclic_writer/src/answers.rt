@@ -1,16 +1,17 @@
 // Writing answers.
 ghost use Rattle.std.specs.Prelude.{◌≡◌, length};
+ghost use Rattle.octets.specs.Refusals.{told};
 ghost use Rattle.octets.specs.Front.{answer_by, held_by};
 ghost use Rattle.acyclic.specs.Answers.{verdict_for, bytes_for};
 
 use crate::forms::{Front, write_bare, write_counted, write_four};
 use acyclic::{ALARM_ACK, Answer, IDLE, READ, TRANSPORT, WRITE};
 use acyclic_forms::{alone, negative, negative_number, ranged};
-use octets::Written;
+use octets::Refusal;
 
 // Writes an answer from its fields and its data.
-pub fn write_answer(answer: Answer, part: &[u8], out: &mut [u8]) -> Written
-    ensures answer { result ≡ answer_by (verdict_for answer part.now) (bytes_for answer part.now) (length out.old) }
+pub fn write_answer(answer: Answer, part: &[u8], out: &mut [u8]) -> Result<usize, Refusal>
+    ensures answer { told result ≡ answer_by (verdict_for answer part.now) (bytes_for answer part.now) (length out.old) }
     ensures bytes { out.new ≡ held_by (verdict_for answer part.now) (bytes_for answer part.now) out.old }
 {
     match answer {

@@ -1,5 +1,5 @@
 -- Both ways between an address change and its bytes.
-use Rattle.std.specs.Prelude.{ℕ, ◌+◌, ◌-◌, ◌≤◌, ◌<◌, ◌≡◌, not, List, [], ◌∷◌, ◌++◌, get_or, eqb}
+use Rattle.std.specs.Prelude.{ℕ, ◌+◌, ◌-◌, ◌≤◌, ◌<◌, ◌≡◌, not, List, [], ◌∷◌, ◌++◌, get_or, eqb, Ok, Err}
 use Rattle.std.proofs.Common.{sym, ◌∙◌, length-append}
 use Rattle.std.proofs.Math.Path.{ap, ap₂}
 use native.Mathlib.Omega.{arith}
@@ -12,10 +12,8 @@ use Rattle.octets.specs.Part.{part_of}
 use Rattle.octets.specs.Front.{fine}
 use Rattle.octets.specs.Fixed.{judged}
 use Rattle.octets.proofs.Fixed.{by_verdict, passed, number_again, part_long, part_tiles}
-use Rattle.address_change.specs.Address.{verdict_of, refused, fields_in, read_of, fixed_bytes, bytes_for, verdict_for}
+use Rattle.address_change.specs.Address.{verdict_of, refused, fields_in, read_of, fixed_bytes, bytes_for, verdict_for, AddressReading}
 use Rattle.address_change.specs.declared.AddressChange.{AddressChange}
-use Rattle.address_change.specs.declared.AddressReading.{AddressReading}
-use Rattle.address_change.specs.declared.AddressReading.TheVariants.{Change, Refused}
 
 -- ---- from the fields
 
@@ -24,19 +22,19 @@ module _ (f : AddressChange) (word : f.ident < 65536) (rest : List ℕ) where
   fields_back =
       ap (λ (n : ℕ). record { address = f.address; ident = n; locked = f.locked }) (number_bytes 2 f.ident word)
 
-  pub alike : read_of (bytes_for f rest) ≡ judged refused (verdict_for f rest) (Change f 4 (length rest))
+  pub alike : read_of (bytes_for f rest) ≡ judged refused (verdict_for f rest) (Ok (record { fields = f; start = 4; len = length rest }))
   unfolding read_of
   alike =
       let len : 4 + length rest - 4 ≡ length rest = omega arith in
-      ap₂ (λ (g : AddressChange) (n : ℕ). judged refused (verdict_of g n) (Change g 4 (n - 4))) fields_back (length-append (fixed_bytes f) rest)
-      ∙ ap (λ (n : ℕ). judged refused (verdict_for f rest) (Change f 4 n)) len
+      ap₂ (λ (g : AddressChange) (n : ℕ). judged refused (verdict_of g n) (Ok (record { fields = g; start = 4; len = n - 4 }))) fields_back (length-append (fixed_bytes f) rest)
+      ∙ ap (λ (n : ℕ). judged refused (verdict_for f rest) (Ok (record { fields = f; start = 4; len = n }))) len
 
 -- ---- from the bytes
 
 module _ (s : List ℕ) (bytes : Bytes s) where
   abbrev pub Again : AddressReading → Type 0
-  Again (Change f start len) = (verdict_for f (part_of s start len) ≡ fine) × (bytes_for f (part_of s start len) ≡ s)
-  Again (Refused r) = Unit
+  Again (Ok found) = (verdict_for found.fields (part_of s found.start found.len) ≡ fine) × (bytes_for found.fields (part_of s found.start found.len) ≡ s)
+  Again (Err r) = Unit
 
   module _ (good : verdict_of (fields_in s) (length s) ≡ fine) where
     long : 4 ≤ length s

@@ -1,12 +1,11 @@
 -- Which bytes are an address change (document 01, "Services by access point"), in plain arithmetic.
-use Rattle.std.specs.Prelude.{ℕ, ◌≤◌, ◌≡◌, Bool, false, List, length, get_or}
+use Rattle.std.specs.Prelude.{ℕ, ◌≤◌, ◌≡◌, Bool, false, List, length, get_or, Ok, Err}
 use Rattle.std.proofs.Math.Bool.{true}
-use Rattle.address_change.specs.declared.AddressReading.{AddressReading}
-use Rattle.address_change.specs.declared.AddressReading.TheVariants.{Change, Refused}
+use Rattle.address_change.specs.Address.{AddressReading}
 
 abbrev pub accepted : AddressReading → Bool
-accepted (Change f start len) = true
-accepted (Refused r) = false
+accepted (Ok found) = true
+accepted (Err r) = false
 
 -- the address, two bytes of ident, which are free, and the last byte
 pub record AddressBytes (s : List ℕ) : Type 0 where

@@ -2,10 +2,11 @@
 #![tactic(auto)]
 
 ghost use Rattle.std.specs.Prelude.{◌≡◌, ◌≤◌, length};
+ghost use Rattle.octets.specs.Refusals.{told};
 ghost use Rattle.octets.specs.Front.{AtFront, answer_by, held_by};
 ghost use Rattle.address_change.specs.Address.{read_of, fixed_bytes, bytes_for, verdict_for};
 
-use octets::{Refusal, Written};
+use octets::{Read, Refusal};
 
 // The slave with this ident number gets the address; with locked 1, and not 0, no later change is allowed.
 #[derive(Clone, Copy)]
@@ -15,32 +16,21 @@ pub struct AddressChange {
     pub locked: u8,
 }
 
-// What bytes are. What follows the four fixed bytes is the len bytes from start, which
-// `octets::part` hands back; by document 01 nothing does.
-#[derive(Drop)]
-pub enum AddressReading {
-    Change {
-        fields: AddressChange,
-        start: usize,
-        len: usize,
-    },
-    Refused(Refusal),
-}
-
 // Reads an address change: all of the lent slice is one.
-pub fn read_address_change(bytes: &[u8]) -> AddressReading
-    ensures { result ≡ read_of bytes.now }
+#[tactic(auto, unfolding(crate::specs::Address::verdict_of, crate::specs::Address::read_of))]
+pub fn read_address_change(bytes: &[u8]) -> Result<Read<AddressChange>, Refusal>
+    ensures { told result ≡ read_of bytes.now }
 {
     if bytes.len() != 4 {
-        return AddressReading::Refused(Refusal { number: 20 });
+        return Err(Refusal::DataLength);
     }
     let address = bytes[0];
     if 125 < address {
-        return AddressReading::Refused(Refusal { number: 21 });
+        return Err(Refusal::DataByte);
     }
     let locked = bytes[3];
     if 1 < locked {
-        return AddressReading::Refused(Refusal { number: 21 });
+        return Err(Refusal::DataByte);
     }
     let ident = octets::join16(bytes[1], bytes[2]);
     let fields = AddressChange {
@@ -48,11 +38,11 @@ pub fn read_address_change(bytes: &[u8]) -> AddressReading
         ident,
         locked,
     };
-    AddressReading::Change {
+    Ok(Read {
         fields,
         start: 4,
         len: bytes.len() - 4,
-    }
+    })
 }
 
 // Stores the four fixed bytes.
@@ -69,23 +59,28 @@ fn put(fields: AddressChange, out: &mut [u8]) -> usize
 }
 
 // Writes an address change from its fields and what follows them.
-pub fn write_address_change(fields: AddressChange, rest: &[u8], out: &mut [u8]) -> Written
-    ensures answer { result ≡ answer_by (verdict_for fields rest.now) (bytes_for fields rest.now) (length out.old) }
+#[tactic(auto, unfolding(crate::specs::Address::verdict_of, octets::specs::Front::answer_by, octets::specs::Front::held_by))]
+pub fn write_address_change(
+    fields: AddressChange,
+    rest: &[u8],
+    out: &mut [u8],
+) -> Result<usize, Refusal>
+    ensures answer { told result ≡ answer_by (verdict_for fields rest.now) (bytes_for fields rest.now) (length out.old) }
     ensures bytes { out.new ≡ held_by (verdict_for fields rest.now) (bytes_for fields rest.now) out.old }
 {
     let size = 4 + rest.len();
     if size != 4 {
-        return Written::Refused(20);
+        return Err(Refusal::DataLength);
     }
     if 125 < fields.address {
-        return Written::Refused(21);
+        return Err(Refusal::DataByte);
     }
     if 1 < fields.locked {
-        return Written::Refused(21);
+        return Err(Refusal::DataByte);
     }
     if out.len() < size {
-        return Written::Refused(11);
+        return Err(Refusal::NoRoom);
     }
     let n = put(fields, out);
-    Written::Stored(octets::store_behind(n, rest, out))
+    Ok(octets::store_behind(n, rest, out))
 }

@@ -1,11 +1,10 @@
 -- What a book has: its templates, in their order, and what is found of each.
-use Rattle.std.specs.Prelude.{◌≡◌, List, [], ◌∷◌, ◌++◌, ℕ, suc, ◌+◌, ◌≤◌, length, get_or, take, drop}
+use Rattle.std.specs.Prelude.{◌≡◌, List, [], ◌∷◌, ◌++◌, ℕ, suc, ◌+◌, ◌≤◌, length, get_or, take, drop, Ok}
 use Rattle.octets.specs.Part.{part_of}
 use Rattle.book.specs.Table.{sum_of}
 use Rattle.book.specs.Reading.{slots_of, lengths_of, bodies_of}
 use Rattle.book.specs.Template.{start_of, template_of}
 use Rattle.book.specs.Writing.{book_bytes}
-use Rattle.book.specs.declared.answers.Template.TheVariants.{Is}
 
 -- a template: its slot and its body
 pub record Entry : Type 0 where
@@ -55,7 +54,7 @@ stretch_of lengths bodies i = take (get_or lengths i 0) (drop (sum_of (take i le
 
 -- template i, counted from 0, is found with this slot and this body
 pub record Found (s : List ℕ) (i slot len : ℕ) (body : List ℕ) : Type 0 where
-  pub is : template_of s (suc i) ≡ Is slot (start_of s i) len
+  pub is : template_of s (suc i) ≡ Ok (record { slot = slot; start = start_of s i; len = len })
   pub inside : start_of s i + len ≤ length s
   pub part : part_of s (start_of s i) len ≡ body
   pub long : length body ≡ len

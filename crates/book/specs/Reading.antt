@@ -1,14 +1,14 @@
 -- Reading a book (document 01, "A book").
-use Rattle.std.specs.Prelude.{List, ℕ, ◌+◌, ◌*◌, length, get_or, drop, ltb}
+use Rattle.std.specs.Prelude.{List, ℕ, ◌+◌, ◌*◌, length, get_or, drop, ltb, Ok, Err, Result}
 use Rattle.octets.specs.Choice.{pick}
-use Rattle.book.specs.Table.{every_second, table_of}
-use Rattle.book.specs.declared.table.Table.{Table}
-use Rattle.book.specs.declared.table.Table.TheVariants as table
-use Rattle.book.specs.declared.answers.Reading.{Reading}
-use Rattle.book.specs.declared.answers.Reading.TheVariants.{Book, Refused}
+use Rattle.book.specs.Table.{every_second, table_of, Table}
+
+-- what reading answers: how many templates there are, or a refusal's number
+abbrev pub Reading : Type 0
+Reading = Result ℕ ℕ
 
 abbrev pub refused : ℕ → Reading
-refused k = Refused (record { number = k })
+refused k = Err k
 
 -- ---- what stands where
 
@@ -31,8 +31,8 @@ bodies_of s = drop (1 + 2 * counted s) s
 
 -- 1: bodies cut; 4: bytes after the bodies
 unfoldable pub bodies_by : (there count : ℕ) → Table → Reading
-bodies_by there n (table.Total t) = pick (ltb there t) (refused 1) (pick (ltb t there) (refused 4) (Book n))
-bodies_by there n (table.Refused r) = Refused r
+bodies_by there n (Ok t) = pick (ltb there t) (refused 1) (pick (ltb t there) (refused 4) (Ok n))
+bodies_by there n (Err r) = Err r
 
 -- 1: no count; 32: count not 1 to 16; 1: table cut; then the table, then the bodies
 unfoldable pub read_of : List ℕ → Reading

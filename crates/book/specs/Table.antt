@@ -1,8 +1,10 @@
 -- The table of a book (document 01, "A book"): slots and lengths in pairs.
-use Rattle.std.specs.Prelude.{Bool, List, [], ◌∷◌, ℕ, zero, suc, ◌+◌, get_or, leb}
+use Rattle.std.specs.Prelude.{Bool, List, [], ◌∷◌, ℕ, zero, suc, ◌+◌, get_or, leb, Ok, Err, Result}
 use Rattle.octets.specs.Choice.{pick, ◌and◌}
-use Rattle.book.specs.declared.table.Table.{Table}
-use Rattle.book.specs.declared.table.Table.TheVariants.{Total, Refused}
+
+-- what a table comes to: the sum of its lengths, or a refusal's number
+abbrev pub Table : Type 0
+Table = Result ℕ ℕ
 
 -- k elements of s, every second one from the i-th on
 abbrev pub every_second : (k i : ℕ) → List ℕ → List ℕ
@@ -16,7 +18,7 @@ sum_of (x ∷ xs) = x + sum_of xs
 
 -- 32: the table is wrong
 abbrev pub wrong : Table
-wrong = Refused (record { number = 32 })
+wrong = Err 32
 
 -- a slot x, `least` to 15, and its length n, 1 to 200
 unfoldable pub good_pair : (least x n : ℕ) → Bool
@@ -24,15 +26,15 @@ good_pair least x n = leb least x and leb x 15 and leb 1 n and leb n 200
 
 -- the length of a good pair is added to the total
 unfoldable pub pair_of : (least total x n : ℕ) → Table
-pair_of least total x n = pick (good_pair least x n) (Total (total + n)) wrong
+pair_of least total x n = pick (good_pair least x n) (Ok (total + n)) wrong
 
 -- what follows a pair that is not refused
 abbrev pub further : Table → (ℕ → Table) → Table
-further (Total t) rest = rest t
-further (Refused r) rest = Refused r
+further (Ok t) rest = rest t
+further (Err r) rest = Err r
 
 -- The pairs in their order: behind slot x comes one from x + 1 on, so that the slots rise strictly.
 unfoldable pub table_of : (least total : ℕ) → (slots lengths : List ℕ) → Table
-table_of least total [] lengths = Total total
-table_of least total (x ∷ slots) [] = Total total
+table_of least total [] lengths = Ok total
+table_of least total (x ∷ slots) [] = Ok total
 table_of least total (x ∷ slots) (n ∷ lengths) = further (pair_of least total x n) (λ t. table_of (x + 1) t slots lengths)

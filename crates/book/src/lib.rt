@@ -1,9 +1,9 @@
-// A book of templates (document 01, "A book"): what reading and finding answer, and the judgment that its reader and
+// A book of templates (document 01, "A book"): what finding a template answers, and the judgment that its reader and
 // its writer share.
 #![tactic(auto)]
 
 mod answers;
 mod table;
 
-pub use answers::{Reading, Template};
-pub use table::{Table, good_pair};
+pub use answers::Template;
+pub use table::good_pair;

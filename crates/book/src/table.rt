@@ -2,15 +2,6 @@
 ghost use Rattle.std.specs.Prelude.{◌≡◌};
 ghost use Rattle.book.specs.Table.{good_pair};
 
-use octets::Refusal;
-
-// What a table comes to: the sum of its lengths, or why it is refused.
-#[derive(Drop)]
-pub enum Table {
-    Total(usize),
-    Refused(Refusal),
-}
-
 // Judges a slot, which is at least `least`, and its length.
 pub fn good_pair(least: u8, slot: u8, len: u8) -> bool
     ensures { result ≡ good_pair least slot len }

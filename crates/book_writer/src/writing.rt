@@ -1,11 +1,11 @@
 // Writing a book from its slots, lengths and bodies.
 ghost use Rattle.std.specs.Prelude.{◌≡◌, ◌∷◌, ◌≤◌, length};
+ghost use Rattle.octets.specs.Refusals.{told};
 ghost use Rattle.octets.specs.Front.{AtFront, answer_by, held_by};
-ghost use Rattle.book.specs.Writing.{pairs_of, book_bytes, bodies_verdict, verdict_of};
+ghost use Rattle.book.specs.Writing.{pairs_of, book_bytes, verdict_of};
 
 use crate::table::table_by;
-use book::Table;
-use octets::Written;
+use octets::Refusal;
 
 // Stores the count and the table.
 fn put_table(slots: &[u8], lengths: &[u8], out: &mut [u8]) -> usize
@@ -13,13 +13,11 @@ fn put_table(slots: &[u8], lengths: &[u8], out: &mut [u8]) -> usize
     ensures { AtFront (length slots.now ∷ pairs_of slots.now lengths.now) out.old out.new result }
 {
     out[0] = slots.len() as u8;
-    let mut k = 0;
-    while k < slots.len() {
-        out[1 + 2 * k] = slots[k];
-        out[2 + 2 * k] = lengths[k];
-        k += 1;
+    for (k, (slot, len)) in slots.iter().zip(lengths).enumerate() {
+        out[1 + 2 * k] = *slot;
+        out[2 + 2 * k] = *len;
     }
-    1 + 2 * k
+    1 + 2 * slots.len()
 }
 
 // Stores a whole book.
@@ -31,46 +29,28 @@ fn put(slots: &[u8], lengths: &[u8], bodies: &[u8], out: &mut [u8]) -> usize
     octets::store_behind(n, bodies, out)
 }
 
-// Writes a book whose table was judged.
-fn write_judged(
-    table: Table,
-    slots: &[u8],
-    lengths: &[u8],
-    bodies: &[u8],
-    out: &mut [u8],
-) -> Written
-    requires { (length slots.now ≤ 16) × (length lengths.now ≡ length slots.now) }
-    ensures answer { result ≡ answer_by (bodies_verdict (length bodies.now) table) (book_bytes slots.now lengths.now bodies.now) (length out.old) }
-    ensures bytes { out.new ≡ held_by (bodies_verdict (length bodies.now) table) (book_bytes slots.now lengths.now bodies.now) out.old }
-{
-    match table {
-        Table::Refused(refusal) => Written::Refused(refusal.number),
-        Table::Total(total) => {
-            if bodies.len() != total {
-                return Written::Refused(32);
-            }
-            if out.len() < 1 + 2 * slots.len() + total {
-                return Written::Refused(11);
-            }
-            Written::Stored(put(slots, lengths, bodies, out))
-        }
-    }
-}
-
 // Writes a book. A table that reading would refuse, and bodies that are not of its lengths, are not
 // written.
-pub fn write(slots: &[u8], lengths: &[u8], bodies: &[u8], out: &mut [u8]) -> Written
-    ensures answer { result ≡ answer_by (verdict_of slots.now lengths.now bodies.now) (book_bytes slots.now lengths.now bodies.now) (length out.old) }
+#[tactic(auto, using(book::proofs::Lemmas::Parts::book_long), unfolding(book::specs::Writing::verdict_of, octets::specs::Front::answer_by, octets::specs::Front::held_by))]
+pub fn write(slots: &[u8], lengths: &[u8], bodies: &[u8], out: &mut [u8]) -> Result<usize, Refusal>
+    ensures answer { told result ≡ answer_by (verdict_of slots.now lengths.now bodies.now) (book_bytes slots.now lengths.now bodies.now) (length out.old) }
     ensures bytes { out.new ≡ held_by (verdict_of slots.now lengths.now bodies.now) (book_bytes slots.now lengths.now bodies.now) out.old }
 {
     if slots.len() < 1 {
-        return Written::Refused(32);
+        return Err(Refusal::BookTable);
     }
     if 16 < slots.len() {
-        return Written::Refused(32);
+        return Err(Refusal::BookTable);
     }
     if lengths.len() != slots.len() {
-        return Written::Refused(32);
+        return Err(Refusal::BookTable);
     }
-    write_judged(table_by(slots, lengths), slots, lengths, bodies, out)
+    let total = table_by(slots, lengths)?;
+    if bodies.len() != total {
+        return Err(Refusal::BookTable);
+    }
+    if out.len() < 1 + 2 * slots.len() + total {
+        return Err(Refusal::NoRoom);
+    }
+    Ok(put(slots, lengths, bodies, out))
 }

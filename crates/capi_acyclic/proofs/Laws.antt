@@ -1,9 +1,8 @@
 -- Fields that were read can be given back, and what was written is read as it was given: over the six fields that the C
 -- interface has of a call or an answer, and over the answers and bytes that its functions promise.
-use Rattle.std.specs.Prelude.{ℕ, ◌≤◌, ◌≡◌, refl, List, [], ◌∷◌, length}
+use Rattle.std.specs.Prelude.{ℕ, ◌≤◌, ◌≡◌, refl, List, [], ◌∷◌, length, Ok}
 use Rattle.octets.specs.Elements.{elements}
 use Rattle.octets.specs.Front.{over, answer_by}
-use Rattle.octets.specs.declared.Written.TheVariants.{Stored}
 use Rattle.acyclic.specs.Numbers.{failed_by}
 use Rattle.acyclic.specs.Errors.{named_in, good_code1}
 use Rattle.acyclic.specs.Forms.{counted_of, counted_as_of, negative_of, by_number, where_allowed}
@@ -25,7 +24,7 @@ use Rattle.capi_acyclic.proofs.Lemmas.Answers as answer-lemmas
 -- The fields of a call that was read, with the data that they name, give the same bytes.
 pub call_fields_write_back : (s before out : List ℕ) → call_refusal (read_call_of s) ≡ 0 → length s ≤ length out →
     let fields = call_after (read_call_of s) before in
-    (answer_of (call_in fields) (part_in s fields) (length out) ≡ Stored (length s)) × (held_of (call_in fields) (part_in s fields) out ≡ over s out)
+    (answer_of (call_in fields) (part_in s fields) (length out) ≡ Ok (length s)) × (held_of (call_in fields) (part_in s fields) out ≡ over s out)
 call_fields_write_back s before out e h =
     let w = call-lemmas.writes s before (read_call_of s) refl (call_told s) e in
     fine_stored w.0 w.1 out h
@@ -33,7 +32,7 @@ call_fields_write_back s before out e h =
 -- the same of an answer
 pub answer_fields_write_back : (s before out : List ℕ) → answer_refusal (read_answer_of s) ≡ 0 → length s ≤ length out →
     let fields = answer_after (read_answer_of s) before in
-    (answer_of (answer_in fields) (part_in s fields) (length out) ≡ Stored (length s)) × (held_of (answer_in fields) (part_in s fields) out ≡ over s out)
+    (answer_of (answer_in fields) (part_in s fields) (length out) ≡ Ok (length s)) × (held_of (answer_in fields) (part_in s fields) out ≡ over s out)
 answer_fields_write_back s before out e h =
     let w = answer-lemmas.writes s before (read_answer_of s) refl (answer_told s) e in
     fine_stored w.0 w.1 out h

@@ -1,15 +1,11 @@
 -- 0 means accepted: what the functions of this crate answer is 0 exactly then, and a refusal number of document 01 else.
-use Rattle.std.specs.Prelude.{ℕ, ◌≡◌, refl, true, List, length}
+use Rattle.std.specs.Prelude.{ℕ, ◌≡◌, refl, true, List, length, Ok, Err}
 use Rattle.octets.specs.Refusals.{listed, numbered, is_fine, Status}
 use Rattle.octets.proofs.Refusals.{zero_accepted, listed_refused}
-use Rattle.acyclic.specs.Calls.{read_call_of}
-use Rattle.acyclic.specs.Answers.{read_answer_of}
+use Rattle.acyclic.specs.Calls.{read_call_of, CallReading}
+use Rattle.acyclic.specs.Answers.{read_answer_of, AnswerReading}
 use Rattle.acyclic.proofs.Refusals as acyclic
 use Rattle.acyclic.specs.Refusals as acyclic_words
-use Rattle.acyclic.specs.declared.calls.CallReading.{CallReading}
-use Rattle.acyclic.specs.declared.calls.CallReading.TheVariants as call-reading
-use Rattle.acyclic.specs.declared.answers.AnswerReading.{AnswerReading}
-use Rattle.acyclic.specs.declared.answers.AnswerReading.TheVariants as answer-reading
 use Rattle.acyclic_fields.specs.declared.four.Case.{Case}
 use Rattle.acyclic_fields.specs.declared.four.Case.TheVariants as case
 use Rattle.fields.specs.Outcome.{status_of}
@@ -19,8 +15,8 @@ use Rattle.capi_acyclic.specs.Acyclic.{call_refusal, answer_refusal, call_in, an
 -- ---- rabtunex_read_dpv1_call
 
 call_by : (r : CallReading) → numbered (acyclic_words.call_verdict r) ≡ true → Status (is_fine (acyclic_words.call_verdict r)) (call_refusal r)
-call_by (call-reading.Call c start len) h = zero_accepted
-call_by (call-reading.Refused r) h = listed_refused h
+call_by (Ok found) h = zero_accepted
+call_by (Err r) h = listed_refused h
 
 pub read_dpv1_call_status : (s : List ℕ) → Status (is_fine (acyclic_words.call_verdict (read_call_of s))) (call_refusal (read_call_of s))
 read_dpv1_call_status s = call_by (read_call_of s) (acyclic.call_numbered s)
@@ -28,8 +24,8 @@ read_dpv1_call_status s = call_by (read_call_of s) (acyclic.call_numbered s)
 -- ---- rabtunex_read_dpv1_answer
 
 answer_by_lem : (r : AnswerReading) → numbered (acyclic_words.answer_verdict r) ≡ true → Status (is_fine (acyclic_words.answer_verdict r)) (answer_refusal r)
-answer_by_lem (answer-reading.Answer x start len) h = zero_accepted
-answer_by_lem (answer-reading.Refused r) h = listed_refused h
+answer_by_lem (Ok found) h = zero_accepted
+answer_by_lem (Err r) h = listed_refused h
 
 pub read_dpv1_answer_status : (s : List ℕ) → Status (is_fine (acyclic_words.answer_verdict (read_answer_of s))) (answer_refusal (read_answer_of s))
 read_dpv1_answer_status s = answer_by_lem (read_answer_of s) (acyclic.answer_numbered s)

@@ -1,16 +1,13 @@
 -- Calls and answers of DPV1 through the C interface. Their fields are six bytes: the function number as it stands in the first
 -- byte, three that each case has its own use for, and start and length of the data. A field that the case does not have is 0,
 -- and so is the number of a poll, which has no byte.
-use Rattle.std.specs.Prelude.{ℕ, List, [], ◌∷◌, ◌++◌, get_or}
+use Rattle.std.specs.Prelude.{ℕ, List, [], ◌∷◌, ◌++◌, get_or, Ok, Err}
 use Rattle.octets.specs.Part.{part_of}
-use Rattle.octets.specs.Front.{Verdict, fault, answer_by, held_by}
-use Rattle.octets.specs.declared.Written.{Written}
+use Rattle.octets.specs.Front.{Verdict, fault, answer_by, held_by, Written}
 use Rattle.acyclic.specs.Calls as calls
 use Rattle.acyclic.specs.Answers as answers
-use Rattle.acyclic.specs.declared.calls.CallReading.{CallReading}
-use Rattle.acyclic.specs.declared.calls.CallReading.TheVariants as call-reading
-use Rattle.acyclic.specs.declared.answers.AnswerReading.{AnswerReading}
-use Rattle.acyclic.specs.declared.answers.AnswerReading.TheVariants as answer-reading
+use Rattle.acyclic.specs.Calls.{CallReading}
+use Rattle.acyclic.specs.Answers.{AnswerReading}
 use Rattle.acyclic_fields.specs.Four.{call_four, answer_four, call_named, answer_named}
 use Rattle.acyclic_fields.specs.declared.four.Case.{Case}
 use Rattle.acyclic_fields.specs.declared.four.Case.TheVariants as case
@@ -22,21 +19,21 @@ all_fields four start len = four ++ (start ∷ len ∷ [])
 -- ---- reading
 
 abbrev pub call_refusal : CallReading → ℕ
-call_refusal (call-reading.Call c start len) = 0
-call_refusal (call-reading.Refused r) = r.number
+call_refusal (Ok found) = 0
+call_refusal (Err r) = r
 
 abbrev pub answer_refusal : AnswerReading → ℕ
-answer_refusal (answer-reading.Answer x start len) = 0
-answer_refusal (answer-reading.Refused r) = r.number
+answer_refusal (Ok found) = 0
+answer_refusal (Err r) = r
 
 -- what the lent fields hold then
 abbrev pub call_after : CallReading → (before : List ℕ) → List ℕ
-call_after (call-reading.Call c start len) before = all_fields (call_four c) start len
-call_after (call-reading.Refused r) before = before
+call_after (Ok found) before = all_fields (call_four found.fields) found.start found.len
+call_after (Err r) before = before
 
 abbrev pub answer_after : AnswerReading → (before : List ℕ) → List ℕ
-answer_after (answer-reading.Answer x start len) before = all_fields (answer_four x) start len
-answer_after (answer-reading.Refused r) before = before
+answer_after (Ok found) before = all_fields (answer_four found.fields) found.start found.len
+answer_after (Err r) before = before
 
 -- ---- writing, from the first four of the fields and the data
 

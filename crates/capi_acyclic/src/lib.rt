@@ -7,9 +7,9 @@ ghost use Rattle.acyclic.specs.Answers.{read_answer_of};
 ghost use Rattle.fields.specs.Outcome.{status_of, count_after};
 ghost use Rattle.capi_acyclic.specs.Acyclic.{call_refusal, answer_refusal, call_after, answer_after, call_in, answer_in, answer_of, held_of};
 
-use acyclic::{AnswerReading, CallReading};
 use acyclic_fields::Case;
 use fields::store_count;
+use octets::{Read, Refusal};
 
 // Reads a call into its fields.
 #[unsafe(no_mangle)]
@@ -19,12 +19,18 @@ pub extern "C" fn rabtunex_read_dpv1_call(bytes: &[u8], fields: &mut [u8; 6]) ->
 {
     let reading = acyclic_reader::read_call(bytes);
     match reading {
-        CallReading::Call { call, start, len } => {
+        Ok(
+            Read {
+                fields: call,
+                start,
+                len,
+            },
+        ) => {
             let call = acyclic_fields::call_four(call);
             *fields = [call.0, call.1, call.2, call.3, start as u8, len as u8];
             0
         }
-        CallReading::Refused(refusal) => refusal.number,
+        Err(refusal) => refusal.number(),
     }
 }
 
@@ -36,7 +42,13 @@ pub extern "C" fn rabtunex_read_dpv1_answer(bytes: &[u8], fields: &mut [u8; 6]) 
 {
     let reading = acyclic_reader::read_answer(bytes);
     match reading {
-        AnswerReading::Answer { answer, start, len } => {
+        Ok(
+            Read {
+                fields: answer,
+                start,
+                len,
+            },
+        ) => {
             let answer = acyclic_fields::answer_four(answer);
             *fields = [
                 answer.0,
@@ -48,11 +60,12 @@ pub extern "C" fn rabtunex_read_dpv1_answer(bytes: &[u8], fields: &mut [u8; 6]) 
             ];
             0
         }
-        AnswerReading::Refused(refusal) => refusal.number,
+        Err(refusal) => refusal.number(),
     }
 }
 
 // Writes what was named, with its data, and its length to stored.
+#[tactic(auto, unfolding(octets::specs::Front::answer_by, octets::specs::Front::held_by))]
 fn write_case(case: Case, part: &[u8], out: &mut [u8], stored: &mut usize) -> u8
     ensures refusal { result ≡ status_of (answer_of case part.now (length out.old)) }
     ensures bytes { out.new ≡ held_of case part.now out.old }
@@ -64,7 +77,7 @@ fn write_case(case: Case, part: &[u8], out: &mut [u8], stored: &mut usize) -> u8
             acyclic_writer::write_answer(answer, part, out),
             stored,
         ),
-        Case::Unknown => 28,
+        Case::Unknown => Refusal::Dpv1Code.number(),
     }
 }
 

@@ -1,34 +1,31 @@
 -- Template books through the C interface, as numbers. A template is three: its slot, and the start and length of its body.
-use Rattle.std.specs.Prelude.{ℕ, List, [], ◌∷◌}
-use Rattle.octets.specs.Front.{answer_by, held_by}
-use Rattle.octets.specs.declared.Written.{Written}
+use Rattle.std.specs.Prelude.{ℕ, List, [], ◌∷◌, Ok, Err}
+use Rattle.octets.specs.Front.{answer_by, held_by, Written}
 use Rattle.book.specs.Writing.{book_bytes, verdict_of}
-use Rattle.book.specs.declared.answers.Reading.{Reading}
-use Rattle.book.specs.declared.answers.Reading.TheVariants as reading
-use Rattle.book.specs.declared.answers.Template.{Template}
-use Rattle.book.specs.declared.answers.Template.TheVariants as template
+use Rattle.book.specs.Reading.{Reading}
+use Rattle.book.specs.Template.{Template}
 
 -- ---- reading
 
 abbrev pub refusal_of : Reading → ℕ
-refusal_of (reading.Book n) = 0
-refusal_of (reading.Refused r) = r.number
+refusal_of (Ok n) = 0
+refusal_of (Err r) = r
 
 -- what the lent number of templates holds then
 abbrev pub templates_after : Reading → (before : ℕ) → ℕ
-templates_after (reading.Book n) before = n
-templates_after (reading.Refused r) before = before
+templates_after (Ok n) before = n
+templates_after (Err r) before = before
 
 -- ---- one template
 
 abbrev pub template_refusal : Template → ℕ
-template_refusal (template.Is slot start len) = 0
-template_refusal (template.Refused r) = r.number
+template_refusal (Ok found) = 0
+template_refusal (Err r) = r
 
 -- what the lent fields hold then
 abbrev pub fields_after : Template → (before : List ℕ) → List ℕ
-fields_after (template.Is slot start len) before = slot ∷ start ∷ len ∷ []
-fields_after (template.Refused r) before = before
+fields_after (Ok found) before = found.slot ∷ found.start ∷ found.len ∷ []
+fields_after (Err r) before = before
 
 -- ---- writing
 

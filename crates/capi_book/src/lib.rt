@@ -7,7 +7,7 @@ ghost use Rattle.book.specs.Template.{template_of};
 ghost use Rattle.fields.specs.Outcome.{status_of, count_after};
 ghost use Rattle.capi_book.specs.Book.{refusal_of, templates_after, template_refusal, fields_after, answer_of, held_of};
 
-use book::{Reading, Template};
+use book::Template;
 use fields::store_count;
 
 // Reads a book, and stores how many templates it has.
@@ -16,13 +16,12 @@ pub extern "C" fn rabtunex_read_book(bytes: &[u8], count: &mut usize) -> u8
     ensures refusal { result ≡ refusal_of (read_of bytes.now) }
     ensures count { count.new ≡ templates_after (read_of bytes.now) count.old }
 {
-    let reading = book_reader::read(bytes);
-    match reading {
-        Reading::Book { count: templates } => {
+    match book_reader::read(bytes) {
+        Ok(templates) => {
             *count = templates;
             0
         }
-        Reading::Refused(refusal) => refusal.number,
+        Err(refusal) => refusal.number(),
     }
 }
 
@@ -32,13 +31,12 @@ pub extern "C" fn rabtunex_book_template(bytes: &[u8], k: usize, fields: &mut [u
     ensures refusal { result ≡ template_refusal (template_of bytes.now k) }
     ensures fields { fields.new ≡ fields_after (template_of bytes.now k) fields.old }
 {
-    let found = book_reader::template(bytes, k);
-    match found {
-        Template::Is { slot, start, len } => {
+    match book_reader::template(bytes, k) {
+        Ok(Template { slot, start, len }) => {
             *fields = [slot as usize, start, len];
             0
         }
-        Template::Refused(refusal) => refusal.number,
+        Err(refusal) => refusal.number(),
     }
 }
 
@@ -55,6 +53,5 @@ pub extern "C" fn rabtunex_write_book(
     ensures bytes { out.new ≡ held_of slots.now lengths.now bodies.now out.old }
     ensures count { stored.new ≡ count_after (answer_of slots.now lengths.now bodies.now (length out.old)) stored.old }
 {
-    let written = book_writer::write(slots, lengths, bodies, out);
-    store_count(written, stored)
+    store_count(book_writer::write(slots, lengths, bodies, out), stored)
 }

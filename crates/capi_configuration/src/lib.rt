@@ -4,8 +4,6 @@
 ghost use Rattle.std.specs.Prelude.{◌≡◌};
 ghost use Rattle.capi_configuration.specs.Configuration.{offsets_of, refusal_of, totals_after, inputs_after, outputs_after};
 
-use configuration::Reading;
-
 // Reads a configuration, and stores the offsets of its modules and its totals.
 #[unsafe(no_mangle)]
 pub extern "C" fn rabtunex_configuration_offsets(
@@ -19,16 +17,11 @@ pub extern "C" fn rabtunex_configuration_offsets(
     ensures outputs { outputs.new ≡ outputs_after bytes.now inputs.old outputs.old }
     ensures totals { totals.new ≡ totals_after (offsets_of bytes.now inputs.old outputs.old) totals.old }
 {
-    let reading = configuration_reader::offsets(bytes, inputs, outputs);
-    match reading {
-        Reading::Configuration {
-            modules,
-            inputs: input,
-            outputs: output,
-        } => {
-            *totals = [modules, input, output];
+    match configuration_reader::offsets(bytes, inputs, outputs) {
+        Ok(reading) => {
+            *totals = [reading.modules, reading.inputs, reading.outputs];
             0
         }
-        Reading::Refused(refusal) => refusal.number,
+        Err(refusal) => refusal.number(),
     }
 }

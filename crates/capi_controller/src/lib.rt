@@ -2,37 +2,44 @@
 #![tactic(auto)]
 
 ghost use Rattle.std.specs.Prelude.{◌≡◌};
+ghost use Rattle.octets.specs.Refusals.{told};
 ghost use Rattle.capi_controller.specs.ControllerEnd.{controller_step, refusal_in, state_after, stored_after, ending_after};
 
-use controller_bytes::{
-    ControllerFound, controller_in, put_controller, put_ending, put_going_on, settings_in,
-};
+use controller_bytes::{controller_in, put_controller, put_ending, put_going_on, settings_in};
+use octets::Refusal;
 use protocol::Action;
 
 // Stores the controller after a step, the length of its request and how the download stands, and answers the
 // refusal, 0 for none.
-fn put_action(action: Action, state: &mut [u8; 5], stored: &mut usize, ending: &mut [u8; 4]) -> u8
-    ensures refusal { result ≡ refusal_in action }
-    ensures state { state.new ≡ state_after action state.old }
-    ensures stored { stored.new ≡ stored_after action stored.old }
-    ensures ending { ending.new ≡ ending_after action ending.old }
+fn put_action(
+    action: Result<Action, Refusal>,
+    state: &mut [u8; 5],
+    stored: &mut usize,
+    ending: &mut [u8; 4],
+) -> u8
+    ensures refusal { result ≡ refusal_in (told action) }
+    ensures state { state.new ≡ state_after (told action) state.old }
+    ensures stored { stored.new ≡ stored_after (told action) stored.old }
+    ensures ending { ending.new ≡ ending_after (told action) ending.old }
 {
     match action {
-        Action::Send {
-            controller,
-            request,
-        } => {
+        Ok(
+            Action::Send {
+                controller,
+                request,
+            },
+        ) => {
             put_controller(controller, state);
             *stored = request as usize;
             put_going_on(ending);
             0
         }
-        Action::End(how) => {
+        Ok(Action::End(how)) => {
             *stored = 0;
             put_ending(how, ending);
             0
         }
-        Action::Refused(number) => number,
+        Err(refusal) => refusal.number(),
     }
 }
 
@@ -53,12 +60,9 @@ pub extern "C" fn rabtunex_controller_step(
     ensures stored { stored.new ≡ stored_after (controller_step settings.now book.now state.old reply.now request.old).answer stored.old }
     ensures ending { ending.new ≡ ending_after (controller_step settings.now book.now state.old reply.now request.old).answer ending.old }
 {
-    let found = controller_in(state);
-    match found {
-        ControllerFound::Unknown => 12,
-        ControllerFound::Is(controller) => {
-            let action = controller::step(settings_in(settings), book, controller, reply, request);
-            put_action(action, state, stored, ending)
-        }
-    }
+    let Some(controller) = controller_in(state) else {
+        return Refusal::Field.number();
+    };
+    let action = controller::step(settings_in(settings), book, controller, reply, request);
+    put_action(action, state, stored, ending)
 }

@@ -1,27 +1,26 @@
 -- Diagnosis through the C interface, as numbers. Its fields are six: the three status bytes, the master, the ident number and
 -- the number of blocks. A block is six too: its kind (1 device, 2 module, 3 channel; 0 the end of the blocks), and what it says.
-use Rattle.std.specs.Prelude.{ℕ, ◌+◌, List, [], ◌∷◌}
+use Rattle.std.specs.Prelude.{ℕ, ◌+◌, List, [], ◌∷◌, Ok, Err}
 use Rattle.diagnosis.specs.Block.{kind_number}
 use Rattle.diagnosis.specs.Map.{lowest_number}
 use Rattle.diagnosis.specs.declared.block.Kind.{Kind}
 use Rattle.diagnosis.specs.declared.block.Kind.TheVariants as kind
-use Rattle.diagnosis.specs.declared.reading.Reading.{Reading}
-use Rattle.diagnosis.specs.declared.reading.Reading.TheVariants.{Diagnosis, Refused}
+use Rattle.diagnosis.specs.Reading.{Reading}
 use Rattle.diagnosis.specs.declared.walk.Block.{Block}
 use Rattle.diagnosis.specs.declared.walk.Block.TheVariants.{Device, Module, Channel}
-use Rattle.diagnosis.specs.declared.walk.Step.{Step}
+use Rattle.diagnosis.specs.Walk.{Step}
 use Rattle.diagnosis.specs.declared.walk.Step.TheVariants as step
 
 -- ---- reading
 
 abbrev pub refusal_of : Reading → ℕ
-refusal_of (Diagnosis h blocks) = 0
-refusal_of (Refused r) = r.number
+refusal_of (Ok found) = 0
+refusal_of (Err r) = r
 
 -- what the lent fields hold then
 abbrev pub fields_after : Reading → (before : List ℕ) → List ℕ
-fields_after (Diagnosis h blocks) before = h.status1 ∷ h.status2 ∷ h.status3 ∷ h.master ∷ h.ident ∷ blocks ∷ []
-fields_after (Refused r) before = before
+fields_after (Ok found) before = found.header.status1 ∷ found.header.status2 ∷ found.header.status3 ∷ found.header.master ∷ found.header.ident ∷ found.blocks ∷ []
+fields_after (Err r) before = before
 
 -- ---- one step of the walk over the blocks
 
@@ -37,17 +36,16 @@ block_numbers (Module start len set low) = block_number kind.Module ∷ start �
 block_numbers (Channel c) = block_number kind.Channel ∷ c.«module» ∷ c.direction ∷ c.channel ∷ c.kind ∷ c.error ∷ []
 
 abbrev pub step_refusal : Step → ℕ
-step_refusal (step.Block b next) = 0
-step_refusal step.End = 0
-step_refusal (step.Refused r) = r.number
+step_refusal (Ok found) = 0
+step_refusal (Err r) = r
 
 -- what the lent block holds then, and the lent position
 abbrev pub block_after : Step → (before : List ℕ) → List ℕ
-block_after (step.Block b next) before = block_numbers b
-block_after step.End before = 0 ∷ 0 ∷ 0 ∷ 0 ∷ 0 ∷ 0 ∷ []
-block_after (step.Refused r) before = before
+block_after (Ok (step.Block b next)) before = block_numbers b
+block_after (Ok step.End) before = 0 ∷ 0 ∷ 0 ∷ 0 ∷ 0 ∷ 0 ∷ []
+block_after (Err r) before = before
 
 abbrev pub position_after : Step → (before : ℕ) → ℕ
-position_after (step.Block b next) before = next.at
-position_after step.End before = before
-position_after (step.Refused r) before = before
+position_after (Ok (step.Block b next)) before = next.at
+position_after (Ok step.End) before = before
+position_after (Err r) before = before

@@ -7,7 +7,7 @@ ghost use Rattle.diagnosis.specs.Reading.{read_of};
 ghost use Rattle.diagnosis.specs.Walk.{next_of};
 ghost use Rattle.capi_diagnosis.specs.Diagnosis.{refusal_of, fields_after, block_numbers, step_refusal, block_after, position_after};
 
-use diagnosis::{Block, Lowest, Position, Reading, Step};
+use diagnosis::{Block, Position, Reading, Step};
 
 // Reads a diagnosis into its fields.
 #[unsafe(no_mangle)]
@@ -15,9 +15,8 @@ pub extern "C" fn rabtunex_read_diagnosis(bytes: &[u8], fields: &mut [usize; 6])
     ensures refusal { result ≡ refusal_of (read_of bytes.now) }
     ensures fields { fields.new ≡ fields_after (read_of bytes.now) fields.old }
 {
-    let reading = diagnosis_reader::read(bytes);
-    match reading {
-        Reading::Diagnosis { header, blocks } => {
+    match diagnosis_reader::read(bytes) {
+        Ok(Reading { header, blocks }) => {
             *fields = [
                 header.status1 as usize,
                 header.status2 as usize,
@@ -28,17 +27,17 @@ pub extern "C" fn rabtunex_read_diagnosis(bytes: &[u8], fields: &mut [usize; 6])
             ];
             0
         }
-        Reading::Refused(refusal) => refusal.number,
+        Err(refusal) => refusal.number(),
     }
 }
 
 // No module has the number that stands for none: the longest map has the modules 0 to 495.
-fn lowest_number(lowest: Lowest) -> usize
+fn lowest_number(lowest: Option<usize>) -> usize
     ensures { result ≡ lowest_number lowest }
 {
     match lowest {
-        Lowest::Module(number) => number,
-        Lowest::Nothing => 65535,
+        Some(number) => number,
+        None => 65535,
     }
 }
 
@@ -83,17 +82,18 @@ pub extern "C" fn rabtunex_next_block(
     ensures block { block.new ≡ block_after (next_of bytes.now position.old) block.old }
 {
     let at = *position;
-    let step = diagnosis_walk::next(bytes, Position { at });
+    let step = match diagnosis_walk::next(bytes, Position { at }) {
+        Ok(step) => step,
+        Err(refusal) => return refusal.number(),
+    };
     match step {
         Step::Block(found, next) => {
             put_block(found, block);
             *position = next.at;
-            0
         }
         Step::End => {
             *block = [0, 0, 0, 0, 0, 0];
-            0
         }
-        Step::Refused(refusal) => refusal.number,
     }
+    0
 }

@@ -2,37 +2,35 @@
 #![tactic(auto)]
 
 ghost use Rattle.std.specs.Prelude.{◌≡◌};
+ghost use Rattle.octets.specs.Refusals.{told};
 ghost use Rattle.capi_download.specs.Joined.{download_between, refusal_in, state_after, ending_after, sendings_after};
 
 use controller_bytes::{put_ending, settings_in};
-use printer_bytes::{PrinterFound, printer_in, put_printer};
+use octets::Refusal;
+use printer_bytes::{printer_in, put_printer};
 use protocol::Downloaded;
 
 // Stores how a download ended, after how many sendings, and the printer then, and answers the refusal, 0 for
 // none.
 fn put_downloaded(
-    downloaded: Downloaded,
+    downloaded: Result<Downloaded, Refusal>,
     state: &mut [u8; 11],
     ending: &mut [u8; 4],
     sendings: &mut usize,
 ) -> u8
-    ensures refusal { result ≡ refusal_in downloaded }
-    ensures state { state.new ≡ state_after downloaded state.old }
-    ensures ending { ending.new ≡ ending_after downloaded ending.old }
-    ensures sendings { sendings.new ≡ sendings_after downloaded sendings.old }
+    ensures refusal { result ≡ refusal_in (told downloaded) }
+    ensures state { state.new ≡ state_after (told downloaded) state.old }
+    ensures ending { ending.new ≡ ending_after (told downloaded) ending.old }
+    ensures sendings { sendings.new ≡ sendings_after (told downloaded) sendings.old }
 {
     match downloaded {
-        Downloaded::Ended {
-            ending: how,
-            sent,
-            printer,
-        } => {
-            put_printer(printer, state);
-            put_ending(how, ending);
-            *sendings = sent as usize;
+        Ok(ended) => {
+            put_printer(ended.printer, state);
+            put_ending(ended.ending, ending);
+            *sendings = ended.sent as usize;
             0
         }
-        Downloaded::Refused(number) => number,
+        Err(refusal) => refusal.number(),
     }
 }
 
@@ -61,23 +59,20 @@ pub extern "C" fn rabtunex_download(
     ensures ending { ending.new ≡ ending_after (download_between settings.now book.now line.now not_yet.now diagnosis.now state.old lengths.old bodies.old reply.old request.old).answer ending.old }
     ensures sendings { sendings.new ≡ sendings_after (download_between settings.now book.now line.now not_yet.now diagnosis.now state.old lengths.old bodies.old reply.old request.old).answer sendings.old }
 {
-    let found = printer_in(state);
-    match found {
-        PrinterFound::Unknown => 12,
-        PrinterFound::Is(printer) => {
-            let downloaded = download::run(
-                settings_in(settings),
-                book,
-                line,
-                not_yet,
-                diagnosis,
-                printer,
-                lengths,
-                bodies,
-                reply,
-                request,
-            );
-            put_downloaded(downloaded, state, ending, sendings)
-        }
-    }
+    let Some(printer) = printer_in(state) else {
+        return Refusal::Field.number();
+    };
+    let downloaded = download::run(
+        settings_in(settings),
+        book,
+        line,
+        not_yet,
+        diagnosis,
+        printer,
+        lengths,
+        bodies,
+        reply,
+        request,
+    );
+    put_downloaded(downloaded, state, ending, sendings)
 }

@@ -2,24 +2,26 @@
 #![tactic(auto)]
 
 ghost use Rattle.std.specs.Prelude.{◌≡◌};
+ghost use Rattle.octets.specs.Refusals.{told};
 ghost use Rattle.capi_printer.specs.PrinterEnd.{printer_step, refusal_in, state_after, sent_after};
 
-use printer_bytes::{PrinterFound, printer_in, put_printer};
+use octets::Refusal;
+use printer_bytes::{printer_in, put_printer};
 use protocol::Reaction;
 
 // Stores the printer after a step and how many bytes it sends back, and answers the refusal, 0 for none.
-fn put_reaction(reaction: Reaction, state: &mut [u8; 11], sent: &mut usize) -> u8
-    ensures refusal { result ≡ refusal_in reaction }
-    ensures state { state.new ≡ state_after reaction state.old }
-    ensures sent { sent.new ≡ sent_after reaction sent.old }
+fn put_reaction(reaction: Result<Reaction, Refusal>, state: &mut [u8; 11], sent: &mut usize) -> u8
+    ensures refusal { result ≡ refusal_in (told reaction) }
+    ensures state { state.new ≡ state_after (told reaction) state.old }
+    ensures sent { sent.new ≡ sent_after (told reaction) sent.old }
 {
     match reaction {
-        Reaction::Heard { printer, reply } => {
+        Ok(Reaction { printer, reply }) => {
             put_printer(printer, state);
             *sent = reply as usize;
             0
         }
-        Reaction::Refused(number) => number,
+        Err(refusal) => refusal.number(),
     }
 }
 
@@ -42,10 +44,9 @@ pub extern "C" fn rabtunex_printer_step(
     ensures reply { reply.new ≡ (printer_step state.old telegram.now diagnosis.now not_yet lengths.old bodies.old reply.old).buffer }
     ensures sent { sent.new ≡ sent_after (printer_step state.old telegram.now diagnosis.now not_yet lengths.old bodies.old reply.old).answer sent.old }
 {
-    let found = printer_in(state);
-    match found {
-        PrinterFound::Unknown => 12,
-        PrinterFound::Is(printer) => {
+    match printer_in(state) {
+        None => Refusal::Field.number(),
+        Some(printer) => {
             let reaction = printer::step(
                 printer, telegram, diagnosis, not_yet, lengths, bodies, reply,
             );

@@ -1,6 +1,6 @@
 -- Fields that were read can be given back, and what was written is read as it was given: over the eighteen fields that the C
 -- interface has of a service telegram, and over the answers and bytes that its functions promise. And what a reading says of its part.
-use Rattle.std.specs.Prelude.{ℕ, ◌+◌, ◌≤◌, ◌<◌, ◌≡◌, List, [], ◌∷◌, length, get_or, set}
+use Rattle.std.specs.Prelude.{ℕ, ◌+◌, ◌≤◌, ◌<◌, ◌≡◌, List, [], ◌∷◌, length, get_or, set, Ok, Err}
 use Rattle.std.proofs.Math.Path.{refl}
 use Rattle.std.proofs.Common.{arith}
 use Rattle.octets.specs.Bytes.{Bytes}
@@ -9,7 +9,6 @@ use Rattle.octets.specs.Part.{part_of}
 use Rattle.octets.proofs.PartLaws.{part_short}
 use Rattle.octets.specs.Front.{over, answer_by}
 use Rattle.octets.specs.declared.Mode.{Mode}
-use Rattle.octets.specs.declared.Written.TheVariants.{Stored}
 use Rattle.function_code.specs.Code.{class_of}
 use Rattle.fdl.proofs.Laws.{data_inside}
 use Rattle.fdl.specs.Telegram.{checksum_of}
@@ -18,7 +17,6 @@ use Rattle.fdl.specs.Reading.{extension_of, source_of, destination_of, fields_of
 use Rattle.fdl.specs.Writing.{core_of, telegram_of, good_header, verdict_by}
 use Rattle.fdl.specs.declared.telegram.Format.{Format}
 use Rattle.fdl.specs.declared.telegram.Header.{Header}
-use Rattle.fdl.specs.declared.reading.Reading as telegram-type
 use Rattle.fdl.specs.declared.reading.Reading.TheVariants as telegram-reading
 use Rattle.diagnosis.specs.Reading as diagnosis
 use Rattle.diagnosis.specs.Reading.{good_status1, good_status2, good_master, blocks_in, ext_diag_agrees, judge}
@@ -32,17 +30,13 @@ use Rattle.access.specs.Route.{kind_of, route_of, header_of}
 use Rattle.access.specs.declared.route.Route.{Route}
 use Rattle.access.specs.declared.route.Route.TheVariants as route
 use Rattle.content.proofs.Laws.{call_inside, answer_inside}
-use Rattle.content.specs.Reading.{end_of, call_of, answer_of}
+use Rattle.content.specs.Reading.{end_of, call_of, answer_of, UserData}
 use Rattle.content.specs.Writing.{bytes_for, call_verdict, answer_verdict}
-use Rattle.content.specs.declared.reading.UserData.{UserData}
-use Rattle.content.specs.declared.reading.UserData.TheVariants as user-data
 use Rattle.service.proofs.Laws as service-laws
-use Rattle.service.specs.Reading.{placed_at, routed_by, service_in, read_of}
+use Rattle.service.specs.Reading.{placed_at, routed_by, service_in, read_of, Reading}
 use Rattle.service.specs.Writing.{telegram_for, verdict_of}
 use Rattle.service.specs.declared.reading.Way.{Way}
 use Rattle.service.specs.declared.reading.Way.TheVariants as way
-use Rattle.service.specs.declared.reading.Reading.{Reading}
-use Rattle.service.specs.declared.reading.Reading.TheVariants as reading
 use Rattle.acyclic_fields.specs.Four.{call_named}
 use Rattle.fields.specs.Outcome.{status_of, stored_by}
 use Rattle.fields.proofs.Lemmas.{fine_stored}
@@ -57,12 +51,12 @@ use Rattle.capi_service.proofs.Lemmas.{told, not_told, zero_writes, read_as}
 -- ---- start and length of the part are bytes
 
 abbrev pub Ends : Reading → Type 0
-Ends (reading.Service f h w c start len) = start + len ≤ 255
-Ends (reading.Refused r) = Unit
+Ends (Ok found) = found.start + found.len ≤ 255
+Ends (Err r) = Unit
 
 placed_ends : (f : Format) (h : Header) (w : Way) (at : ℕ) (d : UserData) → at + end_of d ≤ 255 → Ends (placed_at f h w at d)
-placed_ends f h w at (user-data.Is c start len) e = omega arith
-placed_ends f h w at (user-data.Refused r) e = tt
+placed_ends f h w at (Ok found) e = omega arith
+placed_ends f h w at (Err r) e = tt
 
 routed_ends : (r : Route) (f : Format) (h : Header) (at : ℕ) (user : List ℕ) (m : Mode) → at + length user ≤ 255
     → Ends (routed_by r f h at user m)
@@ -71,13 +65,13 @@ routed_ends (route.Call s) f h at user m e = placed_ends f h way.Call at (call_o
 routed_ends (route.Answer a) f h at user m e = placed_ends f h way.Answer at (answer_of a user) (omega (arith, answer_inside a user))
 
 module _ (s : List ℕ) (m : Mode) where
-  in_ends : (t : telegram-type.Reading) → telegram.read_of s ≡ t → Ends (service_in s m t)
-  in_ends telegram-reading.Confirmation e = tt
-  in_ends (telegram-reading.Token da sa) e = tt
-  in_ends (telegram-reading.Telegram f h start len) e =
+  in_ends : (t : telegram.Reading) → telegram.read_of s ≡ t → Ends (service_in s m t)
+  in_ends (Ok telegram-reading.Confirmation) e = tt
+  in_ends (Ok (telegram-reading.Token da sa)) e = tt
+  in_ends (Ok (telegram-reading.Telegram f h start len)) e =
       let i = data_inside class_of s e in
       routed_ends (route_of h) f h start (part_of s start len) m (omega (arith, part_short s start len, i.ends, i.most))
-  in_ends (telegram-reading.Refused r) e = tt
+  in_ends (Err r) e = tt
 
   pub read_ends : Ends (read_of s m)
   unfolding read_of
@@ -88,7 +82,7 @@ module _ (s : List ℕ) (m : Mode) where
 module _ (s before : List ℕ) (version : ℕ) (b : Bytes s) (e : refusal_of (read_in s version) ≡ 0) where
   -- The fields of a service telegram that was read, with the part that they name, give the same bytes in the same version.
   pub fields_write_back : (out : List ℕ) → length s ≤ length out → let fields = fields_after (read_in s version) before in
-      (fields-of.answer_of fields version (part_in s fields) (length out) ≡ Stored (length s)) × (held_of fields version (part_in s fields) out ≡ over s out)
+      (fields-of.answer_of fields version (part_in s fields) (length out) ≡ Ok (length s)) × (held_of fields version (part_in s fields) out ≡ over s out)
   fields_write_back out h = let w = zero_writes s before version b e in fine_stored w.0 w.1 out h
 
   -- One byte of it changed to another value is refused, in whichever version.

@@ -1,5 +1,5 @@
 -- What an answer of 0 says of a reading, and both ways between a service telegram and its eighteen fields.
-use Rattle.std.specs.Prelude.{ℕ, ◌+◌, ◌≡◌, refl, Bool, true, false, List, length, get_or, eqb, ltb}
+use Rattle.std.specs.Prelude.{ℕ, ◌+◌, ◌≡◌, refl, Bool, true, false, List, length, get_or, eqb, ltb, Ok, Err}
 use Rattle.std.proofs.Common.{sym, ap, ◌∙◌, subst}
 use Rattle.octets.specs.Choice.{pick}
 use Rattle.octets.proofs.Choice.{never}
@@ -25,14 +25,12 @@ use Rattle.content.specs.Writing.{bytes_for, call_verdict, answer_verdict}
 use Rattle.content.specs.declared.fields.Content.{Content}
 use Rattle.content.specs.declared.fields.Content.TheVariants as content
 use Rattle.service.proofs.Laws.{reads_back, writes_back, reads_fit, way_routed}
-use Rattle.service.specs.Reading.{refused, read_of, accepted, goes}
+use Rattle.service.specs.Reading.{refused, read_of, accepted, goes, Reading}
 use Rattle.service.proofs.Refusals as service-refusals
 use Rattle.service.proofs.Lemmas.Back.{both_fine}
 use Rattle.service.specs.Writing.{header_for, telegram_for, route_verdict, verdict_of, way_by}
 use Rattle.service.specs.declared.reading.Way.{Way}
 use Rattle.service.specs.declared.reading.Way.TheVariants as way
-use Rattle.service.specs.declared.reading.Reading.{Reading}
-use Rattle.service.specs.declared.reading.Reading.TheVariants as reading
 use Rattle.fields.specs.Kinds.{format_number, Numbered}
 use Rattle.fields.specs.Kinds as kinds
 use Rattle.fields.proofs.Laws.{format_named, kind_numbered}
@@ -48,8 +46,8 @@ use Rattle.capi_service.proofs.Refusals.{read_service_status}
 -- ---- an answer of 0
 
 told_by : (r : Reading) → Status (is_fine (service-refusals.verdict_in r)) (refusal_of r) → refusal_of r ≡ 0 → accepted r ≡ true
-told_by (reading.Service f h w c start len) t z = refl
-told_by (reading.Refused r) t z = absurd (never (sym t.zero_is_accepted ∙ ap (λ (k : ℕ). eqb k 0) z))
+told_by (Ok found) t z = refl
+told_by (Err r) t z = absurd (never (sym t.zero_is_accepted ∙ ap (λ (k : ℕ). eqb k 0) z))
 
 known : (unknown : Bool) (r : Reading) → accepted (pick unknown (refused 12) r) ≡ true → (unknown ≡ false) × (accepted r ≡ true)
 known true r a = absurd (never a)
@@ -135,14 +133,14 @@ way_small way.Answer = refl
 -- what was read is written again
 writes : (s before : List ℕ) (version : ℕ) → Bytes s → ltb 1 version ≡ false → (r : Reading) → read_of s (mode_of version) ≡ r → accepted r ≡ true
     → Writes s version (fields_after r before)
-writes s before version b v (reading.Service f h w c start len) e a =
-    let fields = fields_of f h w c start len in
-    let right = right_way_lem fields (way_numbered w (route_of h) (is_answer (class_of h.fc)) (way_routed s (mode_of version) e) (route_goes h)) in
+writes s before version b v (Ok found) e a =
+    let fields = fields_of found.format found.header found.way found.content found.start found.len in
+    let right = right_way_lem fields (way_numbered found.way (route_of found.header) (is_answer (class_of found.header.fc)) (way_routed s (mode_of version) e) (route_goes found.header)) in
     let k = writes_back s b (mode_of version) e in
-    let goes_right = written_fits f h.da h.sa h.fc c (part_of s start len) k.0 in
-    let again = content_named version (way_number w) (format_number f) h.da h.sa h.fc start len c (reads_fit s b (mode_of version) e) goes_right in
-    rw (v, way_small w, format_named f, again, right) k
-writes s before version b v (reading.Refused r) e a = absurd (never a)
+    let goes_right = written_fits found.format found.header.da found.header.sa found.header.fc found.content (part_of s found.start found.len) k.0 in
+    let again = content_named version (way_number found.way) (format_number found.format) found.header.da found.header.sa found.header.fc found.start found.len found.content (reads_fit s b (mode_of version) e) goes_right in
+    rw (v, way_small found.way, format_named found.format, again, right) k
+writes s before version b v (Err r) e a = absurd (never a)
 
 pub zero_writes : (s before : List ℕ) (version : ℕ) → Bytes s → refusal_of (read_in s version) ≡ 0 → Writes s version (fields_after (read_in s version) before)
 zero_writes s before version b z =
@@ -178,7 +176,7 @@ module _ (fields part before : List ℕ) (version : ℕ) (b : Bytes fields) (v :
       let r = reads_back f da sa fc c part (mode_of version) names.fits.1 names.fits.0 g in
       let w : Way = way_by (route_of h) in
       let place : ℕ = telegram.user_start f h + fixed_length c in
-      let whole : read_in t version ≡ reading.Service f h w c place (length part) = rw v r.0 in
+      let whole : read_in t version ≡ (Ok (record { format = f; header = h; way = w; content = c; start = place; len = length part })) = rw v r.0 in
       let way_is : get_or fields 1 0 ≡ way_number w =
       right_way_only fields right ∙ sym (way_numbered w (route_of h) (is_answer (class_of fc)) (way_routed t (mode_of version) r.0) (head_goes f da sa fc c part)) in
       let m = made f da sa fc c part in

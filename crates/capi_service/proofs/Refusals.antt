@@ -1,5 +1,5 @@
 -- 0 means accepted: what the functions of this crate answer is 0 exactly then, and a refusal number of document 01 else.
-use Rattle.std.specs.Prelude.{ℕ, ◌+◌, ◌≡◌, refl, Bool, true, List, length, get_or}
+use Rattle.std.specs.Prelude.{ℕ, ◌+◌, ◌≡◌, refl, Bool, true, List, length, get_or, Ok, Err}
 use Rattle.octets.specs.Choice.{pick}
 use Rattle.octets.proofs.Choice.{through, alike}
 use Rattle.octets.specs.Refusals.{listed, numbered, is_fine, Status}
@@ -12,8 +12,7 @@ use Rattle.access.specs.declared.table.Service.{Service}
 use Rattle.access.specs.declared.table.Service.TheVariants as service
 use Rattle.content.specs.Fields.{service_of, fixed_length}
 use Rattle.service.proofs.Refusals.{verdict_in, reading_numbered, verdict_numbered}
-use Rattle.service.specs.declared.reading.Reading.{Reading}
-use Rattle.service.specs.declared.reading.Reading.TheVariants as reading
+use Rattle.service.specs.Reading.{Reading}
 use Rattle.fields.specs.Outcome.{status_of}
 use Rattle.fields.proofs.Refusals.{is_written, written_status}
 use Rattle.fields.specs.declared.kinds.Kind.{Kind}
@@ -26,8 +25,8 @@ use Rattle.capi_service.specs.Service as fields-of
 -- ---- rabtunex_read_service
 
 status_by : (r : Reading) → numbered (verdict_in r) ≡ true → Status (is_fine (verdict_in r)) (refusal_of r)
-status_by (reading.Service f h w c start len) e = zero_accepted
-status_by (reading.Refused r) e = listed_refused e
+status_by (Ok found) e = zero_accepted
+status_by (Err r) e = listed_refused e
 
 read_numbered : (s : List ℕ) (version : ℕ) → numbered (verdict_in (read_in s version)) ≡ true
 unfolding listed

@@ -1,10 +1,9 @@
 -- Service telegrams through the C interface. Their fields are eighteen bytes: the service, the way, kind, DA, SA, FC, start and
 -- length of the part, and then ten of the service's own: the fixed bytes of its data in their order, and 0 behind them.
-use Rattle.std.specs.Prelude.{ℕ, ◌+◌, Bool, List, [], length, get_or, ltb}
+use Rattle.std.specs.Prelude.{ℕ, ◌+◌, Bool, List, [], length, get_or, ltb, Ok, Err}
 use Rattle.octets.specs.Choice.{pick}
 use Rattle.octets.specs.Part.{part_of}
-use Rattle.octets.specs.Front.{Verdict, fault, answer_by, held_by}
-use Rattle.octets.specs.declared.Written.{Written}
+use Rattle.octets.specs.Front.{Verdict, fault, answer_by, held_by, Written}
 use Rattle.fdl.specs.Around.{good_fields}
 use Rattle.fdl.specs.declared.telegram.Format.{Format}
 use Rattle.fdl.specs.declared.telegram.Header.{Header}
@@ -15,12 +14,10 @@ use Rattle.access.specs.declared.table.Service.{Service}
 use Rattle.access.specs.declared.table.Service.TheVariants as service
 use Rattle.content.specs.Fields.{service_of, fixed_length}
 use Rattle.content.specs.declared.fields.Content.{Content}
-use Rattle.service.specs.Reading.{refused, read_of}
+use Rattle.service.specs.Reading.{refused, read_of, Reading}
 use Rattle.service.specs.Writing.{verdict_of, telegram_for}
 use Rattle.service.specs.declared.reading.Way.{Way}
 use Rattle.service.specs.declared.reading.Way.TheVariants as way
-use Rattle.service.specs.declared.reading.Reading.{Reading}
-use Rattle.service.specs.declared.reading.Reading.TheVariants as reading
 use Rattle.fields.specs.Kinds.{format_number, kind_of}
 use Rattle.service_fields.specs.Service.{fields_with, right_way, mode_of, content_in}
 use Rattle.service_fields.specs.declared.Named.{Named}
@@ -44,13 +41,13 @@ abbrev pub read_in : List ℕ → (version : ℕ) → Reading
 read_in s version = pick (ltb 1 version) (refused 12) (read_of s (mode_of version))
 
 abbrev pub refusal_of : Reading → ℕ
-refusal_of (reading.Service f h w c start len) = 0
-refusal_of (reading.Refused r) = r.number
+refusal_of (Ok found) = 0
+refusal_of (Err r) = r
 
 -- what the lent fields hold then
 abbrev pub fields_after : Reading → (before : List ℕ) → List ℕ
-fields_after (reading.Service f h w c start len) before = fields_of f h w c start len
-fields_after (reading.Refused r) before = before
+fields_after (Ok found) before = fields_of found.format found.header found.way found.content found.start found.len
+fields_after (Err r) before = before
 
 -- ---- writing: the telegram
 

@@ -6,7 +6,7 @@ ghost use Rattle.capi_service.specs.Service.{way_number, fields_of, read_in, ref
 use content::Content;
 use fdl::Format;
 use fields::format_number;
-use octets::Mode;
+use octets::{Mode, Refusal};
 use service::{Reading, Way};
 
 fn way_number(way: Way) -> u8
@@ -67,21 +67,23 @@ pub extern "C" fn rabtunex_read_service(bytes: &[u8], version: u8, fields: &mut 
     ensures fields { fields.new ≡ fields_after (read_in bytes.now version) fields.old }
 {
     if 1 < version {
-        return 12;
+        return Refusal::Field.number();
     }
     let reading = service_reader::read(bytes, mode_of(version));
     match reading {
-        Reading::Service {
-            format,
-            header,
-            way,
-            content,
-            start,
-            len,
-        } => {
+        Ok(
+            Reading {
+                format,
+                header,
+                way,
+                content,
+                start,
+                len,
+            },
+        ) => {
             put_fields(format, header, way, content, start as u8, len as u8, fields);
             0
         }
-        Reading::Refused(refusal) => refusal.number,
+        Err(refusal) => refusal.number(),
     }
 }

@@ -1,12 +1,11 @@
 -- Fields that were read can be given back, and what was written is read as it was given: over the eight fields that the C
 -- interface has of a telegram, and over the answers and bytes that its calls promise.
-use Rattle.std.specs.Prelude.{ℕ, ◌≤◌, ◌<◌, ◌≡◌, refl, List, [], ◌∷◌, length, get_or, set}
+use Rattle.std.specs.Prelude.{ℕ, ◌≤◌, ◌<◌, ◌≡◌, refl, List, [], ◌∷◌, length, get_or, set, Ok}
 use Rattle.std.proofs.Common.{sym, ◌∙◌}
 use Rattle.octets.proofs.Choice.{never}
 use Rattle.octets.specs.Bytes.{Bytes}
 use Rattle.octets.specs.Elements.{elements}
 use Rattle.octets.specs.Front.{over, answer_by}
-use Rattle.octets.specs.declared.Written.TheVariants.{Stored}
 use Rattle.function_code.specs.Code.{class_of}
 use Rattle.fdl.specs.Telegram.{checksum_of}
 use Rattle.fdl.specs.Reading.{extension_of, source_of, destination_of, token_of, fields_of, framed_of, sd2_of, read_by, read_of}
@@ -26,7 +25,7 @@ use Rattle.capi_telegram.proofs.Lemmas.{told, writes, no_token, read_as, told_fi
 module _ (s before : List ℕ) (b : Bytes s) (e : refusal_of (read_of s) ≡ 0) where
   -- The fields of a telegram that was read, with the user data that they name, give the same bytes.
   pub fields_write_back : (out : List ℕ) → length s ≤ length out → let fields = fields_after (read_of s) before in
-      (answer_of fields (user_in s fields) (length out) ≡ Stored (length s)) × (held_of fields (user_in s fields) out ≡ over s out)
+      (answer_of fields (user_in s fields) (length out) ≡ Ok (length s)) × (held_of fields (user_in s fields) out ≡ over s out)
   fields_write_back out h =
       let w = writes s before (read_of s) (told s e) (writes_back class_of s b (told s e)) in
       fine_stored w.0 w.1 out h

@@ -1,5 +1,5 @@
 -- What an answer of 0 says of a reading and of fields, and both ways between a telegram and its eight fields.
-use Rattle.std.specs.Prelude.{ℕ, ◌≡◌, refl, true, false, List, [], ◌∷◌, length, get_or, eqb, leb}
+use Rattle.std.specs.Prelude.{ℕ, ◌≡◌, refl, true, false, List, [], ◌∷◌, length, get_or, eqb, leb, Ok, Err, Some, None}
 use Rattle.std.proofs.Common.{sym, ◌∙◌, arith, eqb-true, leb-true, eq-eqb, ne_eqb}
 use Rattle.octets.proofs.Choice.{by_pick, never}
 use Rattle.octets.specs.Elements.{elements}
@@ -8,7 +8,7 @@ use Rattle.octets.specs.Front.{Verdict, fine}
 use Rattle.octets.proofs.Fixed.{fault_fine}
 use Rattle.octets.specs.Refusals.{is_fine}
 use Rattle.function_code.specs.Code.{class_of}
-use Rattle.fdl.specs.Reading.{read_of}
+use Rattle.fdl.specs.Reading.{read_of, Reading}
 use Rattle.fdl.specs.Writing.{good_sap, token_verdict}
 use Rattle.fdl.specs.Contents.{contents_in, accepted, is_token}
 use Rattle.fdl.proofs.Refusals.{verdict_in}
@@ -24,18 +24,16 @@ use Rattle.capi_telegram.proofs.Refusals.{verdict_at_lem, read_telegram_status}
 use Rattle.fields.specs.declared.kinds.Kind.{Kind}
 use Rattle.fields.specs.declared.kinds.Kind.TheVariants as kind
 use Rattle.fdl.specs.declared.telegram.Header.{Header}
-use Rattle.fdl.specs.declared.telegram.Sap.{Sap}
-use Rattle.fdl.specs.declared.telegram.Sap.TheVariants.{Absent, Present}
-use Rattle.fdl.specs.declared.reading.Reading.{Reading}
-use Rattle.fdl.specs.declared.reading.Reading.TheVariants.{Confirmation, Token, Telegram, Refused}
+use Rattle.fdl.specs.Sap.{Sap}
+use Rattle.fdl.specs.declared.reading.Reading.TheVariants.{Confirmation, Token, Telegram}
 
 -- ---- no telegram is refused with 0
 
 accepted_is : (r : Reading) → is_fine (verdict_in r) ≡ accepted r
-accepted_is Confirmation = refl
-accepted_is (Token da sa) = refl
-accepted_is (Telegram f h start len) = refl
-accepted_is (Refused r) = refl
+accepted_is (Ok Confirmation) = refl
+accepted_is (Ok (Token da sa)) = refl
+accepted_is (Ok (Telegram f h start len)) = refl
+accepted_is (Err r) = refl
 
 pub told : (s : List ℕ) → refusal_of (read_of s) ≡ 0 → accepted (read_of s) ≡ true
 told s z = sym (accepted_is (read_of s)) ∙ sym (read_telegram_status s).zero_is_accepted ∙ eq-eqb (refusal_of (read_of s)) 0 z
@@ -43,8 +41,8 @@ told s z = sym (accepted_is (read_of s)) ∙ sym (read_telegram_status s).zero_i
 -- ---- an access point and its number
 
 pub sap_again : (x : Sap) → good_sap x ≡ true → sap_of (sap_number x) ≡ x
-sap_again Absent e = refl
-sap_again (Present n) e =
+sap_again None e = refl
+sap_again (Some n) e =
     let small : n ≡ 255 → ⊥ = λ z. omega (arith, leb-true n 63 e) in
     simp (ne_eqb _ _ small)
 
@@ -65,19 +63,19 @@ Writes s fields user =
 
 -- what was read is written again
 pub writes : (s before : List ℕ) (r : Reading) → accepted r ≡ true → Again class_of s (contents_in s r) → Writes s (fields_after r before) (user_in s (fields_after r before))
-writes s before Confirmation a w = rw (no_part s) (w.taken, w.same)
-writes s before (Token da sa) a w = rw (no_part s) (w.taken, w.same)
-writes s before (Telegram f h start len) a w =
+writes s before (Ok Confirmation) a w = rw (no_part s) (w.taken, w.same)
+writes s before (Ok (Token da sa)) a w = rw (no_part s) (w.taken, w.same)
+writes s before (Ok (Telegram f h start len)) a w =
     let g = (writable class_of f h (part_of s start len) w.taken).header in
     rw (format_named f, sap_again h.dsap g.dsap, sap_again h.ssap g.ssap) (w.taken, w.same)
-writes s before (Refused r) a w = absurd (never a)
+writes s before (Err r) a w = absurd (never a)
 
 -- a telegram with another kind than 1 is no token
 pub no_token : (before : List ℕ) (r : Reading) → accepted r ≡ true → (get_or (fields_after r before) 0 0 ≡ 1 → ⊥) → is_token r ≡ false
-no_token before Confirmation a n = refl
-no_token before (Token da sa) a n = absurd (n refl)
-no_token before (Telegram f h start len) a n = refl
-no_token before (Refused r) a n = refl
+no_token before (Ok Confirmation) a n = refl
+no_token before (Ok (Token da sa)) a n = absurd (n refl)
+no_token before (Ok (Telegram f h start len)) a n = refl
+no_token before (Err r) a n = refl
 
 -- ---- from the fields
 

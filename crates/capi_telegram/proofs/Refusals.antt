@@ -1,13 +1,12 @@
 -- 0 means accepted: what the functions of this crate answer is 0 exactly then, and a refusal number of document 01 else.
-use Rattle.std.specs.Prelude.{ℕ, ◌≡◌, refl, true, List, get_or}
+use Rattle.std.specs.Prelude.{ℕ, ◌≡◌, refl, true, List, get_or, Ok, Err}
 use Rattle.octets.proofs.Choice.{through, alike}
 use Rattle.octets.specs.Refusals.{listed, numbered, is_fine, Status}
 use Rattle.octets.proofs.Refusals.{zero_accepted, listed_refused}
 use Rattle.function_code.specs.Code.{class_of}
-use Rattle.fdl.specs.Reading.{read_of}
+use Rattle.fdl.specs.Reading.{read_of, Reading}
 use Rattle.fdl.proofs.Refusals.{verdict_in, reading_numbered, verdict_numbered, token_verdict_numbered}
-use Rattle.fdl.specs.declared.reading.Reading.{Reading}
-use Rattle.fdl.specs.declared.reading.Reading.TheVariants.{Confirmation, Token, Telegram, Refused}
+use Rattle.fdl.specs.declared.reading.Reading.TheVariants.{Confirmation, Token, Telegram}
 use Rattle.fields.specs.Kinds.{kind_of}
 use Rattle.fields.specs.Outcome.{status_of}
 use Rattle.fields.proofs.Refusals.{is_written, written_status}
@@ -18,10 +17,10 @@ use Rattle.capi_telegram.specs.Telegram.{refusal_of, header_of, verdict_at, byte
 -- ---- rabtunex_read_telegram
 
 status_by : (r : Reading) → numbered (verdict_in r) ≡ true → Status (is_fine (verdict_in r)) (refusal_of r)
-status_by Confirmation h = zero_accepted
-status_by (Token da sa) h = zero_accepted
-status_by (Telegram f x start len) h = zero_accepted
-status_by (Refused r) h = listed_refused h
+status_by (Ok Confirmation) h = zero_accepted
+status_by (Ok (Token da sa)) h = zero_accepted
+status_by (Ok (Telegram f x start len)) h = zero_accepted
+status_by (Err r) h = listed_refused h
 
 pub read_telegram_status : (s : List ℕ) → Status (is_fine (verdict_in (read_of s))) (refusal_of (read_of s))
 read_telegram_status s = status_by (read_of s) (reading_numbered class_of s)

@@ -1,19 +1,17 @@
 -- Telegrams through the C interface. A telegram's fields are eight bytes: kind, DA, SA, FC, DSAP, SSAP, start and length of
 -- the user data. 255 is no access point.
-use Rattle.std.specs.Prelude.{ℕ, List, [], ◌∷◌, length, get_or, eqb}
+use Rattle.std.specs.Prelude.{ℕ, List, [], ◌∷◌, length, get_or, eqb, Ok, Err, Some, None}
 use Rattle.octets.specs.Choice.{pick}
 use Rattle.octets.specs.Part.{part_of}
-use Rattle.octets.specs.Front.{Verdict, fine, fault, answer_by, held_by}
-use Rattle.octets.specs.declared.Written.{Written}
+use Rattle.octets.specs.Front.{Verdict, fine, fault, answer_by, held_by, Written}
 use Rattle.fdl.specs.Writing.{telegram_of, verdict_of, token_bytes, token_verdict, confirmation_bytes}
 use Rattle.fdl.specs.declared.telegram.Header.{Header}
-use Rattle.fdl.specs.declared.telegram.Sap.{Sap}
-use Rattle.fdl.specs.declared.telegram.Sap.TheVariants.{Absent, Present}
+use Rattle.fdl.specs.Sap.{Sap}
 use Rattle.fields.specs.Kinds.{confirmation_number, token_number, format_number, kind_of}
 use Rattle.fields.specs.declared.kinds.Kind.{Kind}
 use Rattle.fields.specs.declared.kinds.Kind.TheVariants as kind
-use Rattle.fdl.specs.declared.reading.Reading.{Reading}
-use Rattle.fdl.specs.declared.reading.Reading.TheVariants.{Confirmation, Token, Telegram, Refused}
+use Rattle.fdl.specs.Reading.{Reading}
+use Rattle.fdl.specs.declared.reading.Reading.TheVariants.{Confirmation, Token, Telegram}
 
 -- ---- the numbers of the fields
 
@@ -22,19 +20,19 @@ abbrev pub no_sap : ℕ
 no_sap = 255
 
 abbrev pub sap_number : Sap → ℕ
-sap_number Absent = no_sap
-sap_number (Present x) = x
+sap_number None = no_sap
+sap_number (Some x) = x
 
 abbrev pub sap_of : ℕ → Sap
-sap_of n = pick (eqb n no_sap) Absent (Present n)
+sap_of n = pick (eqb n no_sap) None (Some n)
 
 -- ---- reading
 
 abbrev pub refusal_of : Reading → ℕ
-refusal_of Confirmation = 0
-refusal_of (Token da sa) = 0
-refusal_of (Telegram f h start len) = 0
-refusal_of (Refused r) = r.number
+refusal_of (Ok Confirmation) = 0
+refusal_of (Ok (Token da sa)) = 0
+refusal_of (Ok (Telegram f h start len)) = 0
+refusal_of (Err r) = r
 
 -- the fields of SD1, SD2 and SD3
 abbrev pub telegram_fields : (kind : ℕ) → Header → (start len : ℕ) → List ℕ
@@ -42,10 +40,10 @@ telegram_fields kind h start len = kind ∷ h.da ∷ h.sa ∷ h.fc ∷ sap_numbe
 
 -- what the lent fields hold then
 abbrev pub fields_after : Reading → (before : List ℕ) → List ℕ
-fields_after Confirmation before = confirmation_number ∷ 0 ∷ 0 ∷ 0 ∷ no_sap ∷ no_sap ∷ 0 ∷ 0 ∷ []
-fields_after (Token da sa) before = token_number ∷ da ∷ sa ∷ 0 ∷ no_sap ∷ no_sap ∷ 0 ∷ 0 ∷ []
-fields_after (Telegram f h start len) before = telegram_fields (format_number f) h start len
-fields_after (Refused r) before = before
+fields_after (Ok Confirmation) before = confirmation_number ∷ 0 ∷ 0 ∷ 0 ∷ no_sap ∷ no_sap ∷ 0 ∷ 0 ∷ []
+fields_after (Ok (Token da sa)) before = token_number ∷ da ∷ sa ∷ 0 ∷ no_sap ∷ no_sap ∷ 0 ∷ 0 ∷ []
+fields_after (Ok (Telegram f h start len)) before = telegram_fields (format_number f) h start len
+fields_after (Err r) before = before
 
 -- ---- writing, from the first six of the fields and the user data
 

@@ -2,6 +2,7 @@
 #![tactic(auto)]
 
 ghost use Rattle.std.specs.Prelude.{◌≡◌, length};
+ghost use Rattle.octets.specs.Refusals.{told};
 ghost use Rattle.octets.specs.Front.{answer_by, held_by};
 ghost use Rattle.fdl.specs.Reading.{read_of};
 ghost use Rattle.fields.specs.Outcome.{status_of, count_after};
@@ -9,25 +10,21 @@ ghost use Rattle.capi_telegram.specs.Telegram.{sap_number, sap_of, refusal_of, t
 
 use fdl::{Header, Reading, Sap};
 use fields::{Kind, format_number, kind_of, store_count};
-use octets::Written;
+use octets::Refusal;
 
 fn sap_number(sap: Sap) -> u8
     ensures { result ≡ sap_number sap }
 {
     match sap {
-        Sap::Absent => 255,
-        Sap::Present(number) => number,
+        None => 255,
+        Some(number) => number,
     }
 }
 
 fn sap_of(number: u8) -> Sap
     ensures { result ≡ sap_of number }
 {
-    if number == 255 {
-        Sap::Absent
-    } else {
-        Sap::Present(number)
-    }
+    if number == 255 { None } else { Some(number) }
 }
 
 // Stores eight fields.
@@ -54,22 +51,23 @@ pub extern "C" fn rabtunex_read_telegram(bytes: &[u8], fields: &mut [u8; 8]) -> 
     ensures refusal { result ≡ refusal_of (read_of bytes.now) }
     ensures fields { fields.new ≡ fields_after (read_of bytes.now) fields.old }
 {
-    let reading = fdl_reader::read(bytes);
-    match reading {
-        Reading::Confirmation => {
+    match fdl_reader::read(bytes) {
+        Ok(Reading::Confirmation) => {
             *fields = [0, 0, 0, 0, 255, 255, 0, 0];
             0
         }
-        Reading::Token { da, sa } => {
+        Ok(Reading::Token { da, sa }) => {
             *fields = [1, da, sa, 0, 255, 255, 0, 0];
             0
         }
-        Reading::Telegram {
-            format,
-            header,
-            start,
-            len,
-        } => {
+        Ok(
+            Reading::Telegram {
+                format,
+                header,
+                start,
+                len,
+            },
+        ) => {
             put_fields(
                 format_number(format),
                 header,
@@ -79,7 +77,7 @@ pub extern "C" fn rabtunex_read_telegram(bytes: &[u8], fields: &mut [u8; 8]) -> 
             );
             0
         }
-        Reading::Refused(refusal) => refusal.number,
+        Err(refusal) => refusal.number(),
     }
 }
 
@@ -95,25 +93,26 @@ fn header_of(fields: &[u8; 8]) -> Header
     }
 }
 
-fn write_kind(kind: Kind, fields: &[u8; 8], user: &[u8], out: &mut [u8]) -> Written
-    ensures answer { result ≡ answer_by (verdict_at kind fields.now user.now) (bytes_at kind fields.now user.now) (length out.old) }
+#[tactic(auto, unfolding(octets::specs::Front::answer_by, octets::specs::Front::held_by))]
+fn write_kind(kind: Kind, fields: &[u8; 8], user: &[u8], out: &mut [u8]) -> Result<usize, Refusal>
+    ensures answer { told result ≡ answer_by (verdict_at kind fields.now user.now) (bytes_at kind fields.now user.now) (length out.old) }
     ensures bytes { out.new ≡ held_by (verdict_at kind fields.now user.now) (bytes_at kind fields.now user.now) out.old }
 {
     match kind {
         Kind::Confirmation => {
             if user.len() != 0 {
-                return Written::Refused(12);
+                return Err(Refusal::Field);
             }
             framing::write_confirmation(out)
         }
         Kind::Token => {
             if user.len() != 0 {
-                return Written::Refused(12);
+                return Err(Refusal::Field);
             }
             framing::write_token(fields[1], fields[2], out)
         }
         Kind::Telegram(format) => fdl_writer::write(format, header_of(fields), user, out),
-        Kind::Unknown => Written::Refused(12),
+        Kind::Unknown => Err(Refusal::Field),
     }
 }
 

@@ -1,13 +1,12 @@
 -- The customer's second demand for configurations, of one module and of all, and what the offsets are.
-use Rattle.std.specs.Prelude.{◌≡◌, refl, true, List, ◌++◌, ℕ, ◌+◌, ◌≤◌, ◌<◌, length, get_or, take, drop}
+use Rattle.std.specs.Prelude.{◌≡◌, refl, true, List, ◌++◌, ℕ, ◌+◌, ◌≤◌, ◌<◌, length, get_or, take, drop, Ok, Err}
 use Rattle.std.proofs.Common.{sym, ap, ◌∙◌, arith, zero-add}
 use Rattle.octets.proofs.Choice.{never}
 use Rattle.octets.specs.Bytes.{Bytes}
-use Rattle.octets.specs.declared.Refusal.{Refusal}
 use Rattle.octets.specs.Front.{fine}
 use Rattle.octets.proofs.Fixed.{fault_fine}
 use Rattle.configuration.specs.Walk.{Walk, end, bad, more, first_position, next_of, walk_of}
-use Rattle.configuration.specs.Reading.{input_of, output_of, totals_of, read_of, offsets_of, list_by, input_offsets, output_offsets}
+use Rattle.configuration.specs.Reading.{input_of, output_of, total, totals_of, read_of, offsets_of, list_by, input_offsets, output_offsets, Reading}
 use Rattle.configuration.specs.Writing.{module_verdict, module_bytes, verdict_in, verdict_of}
 use Rattle.configuration.specs.Contents.{Reads, Again, Says, accepted, ends_well, walk_bytes, walk_verdict, Whole, input_lengths, output_lengths, sum_of}
 use Rattle.configuration.proofs.Lemmas.Steps.{says}
@@ -18,8 +17,6 @@ use Rattle.configuration.proofs.Lemmas.Sums.{offset_from, sum_front, sums}
 use Rattle.configuration.specs.declared.fields.Module.{Module}
 use Rattle.configuration.specs.declared.walk.Position.{Position}
 use Rattle.configuration.specs.declared.walk.Step.TheVariants as step
-use Rattle.configuration.specs.declared.reading.Reading.{Reading}
-use Rattle.configuration.specs.declared.reading.Reading.TheVariants.{Configuration, Refused}
 
 -- ---- one module
 
@@ -30,7 +27,7 @@ pub reads_back : (m : Module) (vendor front behind : List ℕ) → module_verdic
 reads_back = back
 
 -- (b) What is read at a position may be written, and gives the same bytes there, up to the next position.
-pub writes_back : (s : List ℕ) → Bytes s → (at : ℕ) {m : Module} {start len : ℕ} {next : Position} → next_of s at ≡ step.Module m start len next
+pub writes_back : (s : List ℕ) → Bytes s → (at : ℕ) {m : Module} {start len : ℕ} {next : Position} → next_of s at ≡ Ok (step.Module m start len next)
     → Again s at m start len next.at
 writes_back = again
 
@@ -54,8 +51,8 @@ pub configuration_reads_back : (s : List ℕ) → verdict_of s ≡ fine → acce
 configuration_reads_back s = by_reading (read_of s)
   where
     by_reading : (r : Reading) → verdict_in r ≡ fine → accepted r ≡ true
-    by_reading (Configuration n i o) e = refl
-    by_reading (Refused r) e = absurd (fault_fine e)
+    by_reading (Ok found) e = refl
+    by_reading (Err r) e = absurd (fault_fine e)
 
 -- (b), of the whole: what is accepted may be written as it is; and all its modules may be, and give the same bytes.
 pub record Kept (s : List ℕ) : Type 0 where
@@ -72,9 +69,9 @@ pub configuration_writes_back : (s : List ℕ) → Bytes s → accepted (read_of
 configuration_writes_back s bytes = by_reading (read_of s) refl
   where
     by_reading : (r : Reading) → read_of s ≡ r → accepted r ≡ true → Kept s
-    by_reading (Configuration n i o) e a =
+    by_reading (Ok found) e a =
         record { taken = ap verdict_in e; modules = all_again s bytes (ends_well_lem (walk_of s 0) 0 0 0 (ap accepted (lemma.accepted s e).totals)) }
-    by_reading (Refused r) e a = absurd (never a)
+    by_reading (Err r) e a = absurd (never a)
 
 -- The fields are complete: two configurations with the same modules and vendor bytes are the same.
 pub complete : (s t : List ℕ) → Bytes s → Bytes t → accepted (read_of s) ≡ true → accepted (read_of t) ≡ true → walk_of s 0 ≡ walk_of t 0 → s ≡ t
@@ -94,7 +91,7 @@ pub record Totals (s : List ℕ) (n i o : ℕ) : Type 0 where
   pub most_inputs : i ≤ 244
   pub most_outputs : o ≤ 244
 
-pub totals_are_sums : (s : List ℕ) {n i o : ℕ} → read_of s ≡ Configuration n i o → Totals s n i o
+pub totals_are_sums : (s : List ℕ) {n i o : ℕ} → read_of s ≡ total n i o → Totals s n i o
 totals_are_sums s e =
     let w : Walk = walk_of s 0 in
     let a = lemma.accepted s e in
@@ -117,7 +114,7 @@ pub record Placed (s : List ℕ) (i o k : ℕ) : Type 0 where
   pub input_ends : get_or (input_offsets s) k 0 + get_or (input_lengths s) k 0 ≤ i
   pub output_ends : get_or (output_offsets s) k 0 + get_or (output_lengths s) k 0 ≤ o
 
-pub offsets_are_sums : (s : List ℕ) {n i o : ℕ} → read_of s ≡ Configuration n i o → (k : ℕ) → k < n → Placed s i o k
+pub offsets_are_sums : (s : List ℕ) {n i o : ℕ} → read_of s ≡ total n i o → (k : ℕ) → k < n → Placed s i o k
 offsets_are_sums s e k h =
     let t = totals_are_sums s e in
     let a = offset_from input_of 0 (walk_of s 0) k (omega (arith, t.input_offsets_lem)) in
@@ -130,6 +127,6 @@ offsets_are_sums s e k h =
     }
 
 -- A refusal stores no offset, of whichever list they are.
-pub refused_stores_nothing : (s offsets before : List ℕ) (inputs outputs : ℕ) {r : Refusal} → offsets_of s inputs outputs ≡ Refused r
+pub refused_stores_nothing : (s offsets before : List ℕ) (inputs outputs : ℕ) {r : ℕ} → offsets_of s inputs outputs ≡ Err r
     → list_by (offsets_of s inputs outputs) offsets before ≡ before
 refused_stores_nothing s offsets before inputs outputs e = ap (λ (x : Reading). list_by x offsets before) e

@@ -1,25 +1,23 @@
 -- Every refusal of a configuration, read or to be written, has a number of document 01's table.
-use Rattle.std.specs.Prelude.{ℕ, zero, suc, ◌≡◌, ◌+◌, refl, true, List, [], ◌∷◌, get_or}
+use Rattle.std.specs.Prelude.{ℕ, zero, suc, ◌≡◌, ◌+◌, refl, true, List, [], ◌∷◌, get_or, Ok, Err}
 use Rattle.octets.proofs.Choice.{through, alike}
 use Rattle.octets.specs.Front.{Verdict, fine, fault}
 use Rattle.octets.specs.Refusals.{listed, numbered}
 use Rattle.configuration.specs.Fields.{identifier_of}
 use Rattle.configuration.specs.Walk.{Found, one, unfit, special_in, module_by, module_in, Walk, end, bad, more, after, walk_of}
-use Rattle.configuration.specs.Reading.{input_of, output_of, totals_of, within_limit, read_of, with_room, offsets_of}
+use Rattle.configuration.specs.Reading.{input_of, output_of, totals_of, within_limit, read_of, with_room, offsets_of, Reading}
 use Rattle.configuration.specs.Writing.{verdict_in}
 use Rattle.configuration.specs.declared.fields.Identifier.{Identifier}
 use Rattle.configuration.specs.declared.fields.Identifier.TheVariants.{General, Special}
-use Rattle.configuration.specs.declared.reading.Reading.{Reading}
-use Rattle.configuration.specs.declared.reading.Reading.TheVariants.{Configuration, Refused}
 
 -- the verdict that a module came to, and all of them
 abbrev found_verdict : Found → Verdict
 found_verdict (one m start len) = fine
-found_verdict (unfit r) = fault r.number
+found_verdict (unfit r) = fault r
 
 abbrev walk_verdict : Walk → Verdict
 walk_verdict end = fine
-walk_verdict (bad r) = fault r.number
+walk_verdict (bad r) = fault r
 walk_verdict (more m vendor w) = walk_verdict w
 
 by_format : (k : Identifier) (r : List ℕ) → numbered (found_verdict (module_by k r)) ≡ true
@@ -50,8 +48,8 @@ totals_numbered n i o (more m vendor w) h = totals_numbered (n + 1) (i + input_o
 
 limit_numbered : (r : Reading) → numbered (verdict_in r) ≡ true → numbered (verdict_in (within_limit r)) ≡ true
 unfolding within_limit listed
-limit_numbered (Configuration n i o) h = simp (through verdict_in, through numbered, alike)
-limit_numbered (Refused r) h = h
+limit_numbered (Ok found) h = simp (through verdict_in, through numbered, alike)
+limit_numbered (Err r) h = h
 
 pub reading_numbered : (s : List ℕ) → numbered (verdict_in (read_of s)) ≡ true
 unfolding read_of listed
@@ -61,8 +59,8 @@ reading_numbered s =
 
 room_numbered : (a b : ℕ) (r : Reading) → numbered (verdict_in r) ≡ true → numbered (verdict_in (with_room a b r)) ≡ true
 unfolding with_room listed
-room_numbered a b (Configuration n i o) h = simp (through verdict_in, through numbered, alike)
-room_numbered a b (Refused r) h = h
+room_numbered a b (Ok found) h = simp (through verdict_in, through numbered, alike)
+room_numbered a b (Err r) h = h
 
 pub offsets_numbered : (s : List ℕ) (a b : ℕ) → numbered (verdict_in (offsets_of s a b)) ≡ true
 offsets_numbered s a b = room_numbered a b (read_of s) (reading_numbered s)

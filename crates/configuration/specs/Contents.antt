@@ -1,21 +1,18 @@
 -- What a configuration has, whichever way it goes: the ground on which the laws are stated.
-use Rattle.std.specs.Prelude.{◌≡◌, Bool, true, false, List, [], ◌∷◌, ◌++◌, ℕ, ◌+◌, ◌≤◌, ◌<◌, length, drop}
+use Rattle.std.specs.Prelude.{◌≡◌, Bool, true, false, List, [], ◌∷◌, ◌++◌, ℕ, ◌+◌, ◌≤◌, ◌<◌, length, drop, Ok, Err}
 use Rattle.octets.specs.Part.{part_of}
 use Rattle.octets.specs.Front.{Verdict, fine, fault}
-use Rattle.configuration.specs.Walk.{position, next_of, Walk, end, bad, more, walk_of}
-use Rattle.configuration.specs.Reading.{input_of, output_of}
+use Rattle.configuration.specs.Walk.{position, next_of, Walk, end, bad, more, walk_of, Step}
+use Rattle.configuration.specs.Reading.{input_of, output_of, Reading}
 use Rattle.configuration.specs.Writing.{module_verdict, module_bytes, vendor_start}
 use Rattle.configuration.specs.declared.fields.Module.{Module}
-use Rattle.configuration.specs.declared.walk.Step.{Step}
 use Rattle.configuration.specs.declared.walk.Step.TheVariants as step
-use Rattle.configuration.specs.declared.reading.Reading.{Reading}
-use Rattle.configuration.specs.declared.reading.Reading.TheVariants.{Configuration, Refused}
 
 -- ---- one module
 
 -- at a place of bytes a module is read that has these fields and vendor bytes
 pub record Reads (s : List ℕ) (at : ℕ) (m : Module) (vendor : List ℕ) : Type 0 where
-  pub fields : next_of s at ≡ step.Module m (at + vendor_start m) (length vendor) (position (at + length (module_bytes m vendor)))
+  pub fields : next_of s at ≡ Ok (step.Module m (at + vendor_start m) (length vendor) (position (at + length (module_bytes m vendor))))
   pub part : part_of s (at + vendor_start m) (length vendor) ≡ vendor
 
 -- a module that was read at a place may be written, and gives the bytes up to the next place
@@ -36,15 +33,15 @@ pub record Stands (s : List ℕ) (at : ℕ) (m : Module) (start len next : ℕ) 
 
 -- what a step at a place says of the walk from there
 abbrev pub Says : (s : List ℕ) (at : ℕ) → Step → Type 0
-Says s at (step.Module m start len next) = Stands s at m start len next.at
-Says s at step.End = (at ≡ length s) × (walk_of (drop at s) 0 ≡ end)
-Says s at (step.Refused r) = at ≤ length s → walk_of (drop at s) 0 ≡ bad r
+Says s at (Ok (step.Module m start len next)) = Stands s at m start len next.at
+Says s at (Ok step.End) = (at ≡ length s) × (walk_of (drop at s) 0 ≡ end)
+Says s at (Err r) = at ≤ length s → walk_of (drop at s) 0 ≡ bad r
 
 -- ---- all modules
 
 abbrev pub accepted : Reading → Bool
-accepted (Configuration n i o) = true
-accepted (Refused r) = false
+accepted (Ok found) = true
+accepted (Err r) = false
 
 abbrev pub ends_well : Walk → Bool
 ends_well end = true
@@ -64,7 +61,7 @@ and_then (fault k) v = fault k
 
 abbrev pub walk_verdict : Walk → Verdict
 walk_verdict end = fine
-walk_verdict (bad r) = fault r.number
+walk_verdict (bad r) = fault r
 walk_verdict (more m vendor w) = and_then (module_verdict m vendor) (walk_verdict w)
 
 -- all modules of s may be written, and give s

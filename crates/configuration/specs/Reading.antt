@@ -1,15 +1,22 @@
 -- Reading a whole configuration (document 01, "Configuration"), and the offsets of its modules.
-use Rattle.std.specs.Prelude.{List, [], ◌∷◌, ℕ, ◌+◌, length, ltb}
+use Rattle.std.specs.Prelude.{List, [], ◌∷◌, ℕ, ◌+◌, length, ltb, Ok, Err, Result}
 use Rattle.octets.specs.Choice.{pick}
 use Rattle.octets.specs.Front.{over}
 use Rattle.configuration.specs.Fields.{length_of}
 use Rattle.configuration.specs.Walk.{Walk, end, bad, more, walk_of}
 use Rattle.configuration.specs.declared.fields.Module.{Module}
-use Rattle.configuration.specs.declared.reading.Reading.{Reading}
-use Rattle.configuration.specs.declared.reading.Reading.TheVariants.{Configuration, Refused}
+use Rattle.configuration.specs.declared.reading.Reading as totals
+
+-- what reading answers: the totals, or a refusal's number
+abbrev pub Reading : Type 0
+Reading = Result totals.Reading ℕ
 
 abbrev pub refused : ℕ → Reading
-refused k = Refused (record { number = k })
+refused k = Err k
+
+-- so many modules, input and output bytes
+abbrev pub total : (modules inputs outputs : ℕ) → Reading
+total n i o = Ok (record { modules = n; inputs = i; outputs = o })
 
 -- how many bytes a module has on each side
 abbrev pub input_of : Module → ℕ
@@ -20,14 +27,14 @@ output_of m = length_of m.output
 
 -- how many modules, input and output bytes there are, behind n modules with i and o
 unfoldable pub totals_of : (n i o : ℕ) → Walk → Reading
-totals_of n i o end = Configuration n i o
-totals_of n i o (bad r) = Refused r
+totals_of n i o end = total n i o
+totals_of n i o (bad r) = Err r
 totals_of n i o (more m vendor w) = totals_of (n + 1) (i + input_of m) (o + output_of m) w
 
 -- 27: over 244 input bytes, or over 244 output bytes
 unfoldable pub within_limit : Reading → Reading
-within_limit (Configuration n i o) = pick (ltb 244 i) (refused 27) (pick (ltb 244 o) (refused 27) (Configuration n i o))
-within_limit (Refused r) = Refused r
+within_limit (Ok found) = pick (ltb 244 found.inputs) (refused 27) (pick (ltb 244 found.outputs) (refused 27) (Ok found))
+within_limit (Err r) = Err r
 
 -- 20: 1 to 244 bytes
 unfoldable pub read_of : List ℕ → Reading
@@ -51,13 +58,13 @@ output_offsets s = offsets_by output_of 0 (walk_of s 0)
 
 -- 11, last: a list with room for fewer offsets than there are modules
 unfoldable pub with_room : (inputs outputs : ℕ) → Reading → Reading
-with_room a b (Configuration n i o) = pick (ltb a n) (refused 11) (pick (ltb b n) (refused 11) (Configuration n i o))
-with_room a b (Refused r) = Refused r
+with_room a b (Ok found) = pick (ltb a found.modules) (refused 11) (pick (ltb b found.modules) (refused 11) (Ok found))
+with_room a b (Err r) = Err r
 
 abbrev pub offsets_of : List ℕ → (inputs outputs : ℕ) → Reading
 offsets_of s a b = with_room a b (read_of s)
 
 -- what a lent list holds then: the offsets in front, or what it held
 abbrev pub list_by : Reading → (offsets before : List ℕ) → List ℕ
-list_by (Configuration n i o) p l = over p l
-list_by (Refused r) p l = l
+list_by (Ok found) p l = over p l
+list_by (Err r) p l = l

@@ -1,26 +1,26 @@
 -- The modules of a configuration, one after the other (document 01, "Configuration"). The first fault decides; 24 is given
 -- at the identifier, after 26.
-use Rattle.std.specs.Prelude.{List, [], ◌∷◌, ℕ, zero, suc, ◌+◌, ◌-◌, ◌/◌, ◌%◌, length, get_or, drop, eqb, ltb}
+use Rattle.std.specs.Prelude.{List, [], ◌∷◌, ℕ, zero, suc, ◌+◌, ◌-◌, ◌/◌, ◌%◌, length, get_or, drop, eqb, ltb, Ok, Err, Result}
 use Rattle.octets.specs.Choice.{pick}
 use Rattle.octets.specs.Part.{part_of}
-use Rattle.octets.specs.declared.Refusal.{Refusal}
 use Rattle.configuration.specs.Fields.{identifier_of, input_bit, output_bit, general_of, special_of}
 use Rattle.configuration.specs.declared.fields.Identifier.{Identifier}
 use Rattle.configuration.specs.declared.fields.Identifier.TheVariants.{General, Special}
 use Rattle.configuration.specs.declared.fields.Module.{Module}
 use Rattle.configuration.specs.declared.walk.Position.{Position}
-use Rattle.configuration.specs.declared.walk.Step.{Step}
+use Rattle.configuration.specs.declared.walk.Step as walk
 use Rattle.configuration.specs.declared.walk.Step.TheVariants as step
+
+-- what the walk finds at a position, or a refusal's number
+abbrev pub Step : Type 0
+Step = Result walk.Step ℕ
 
 -- ---- one module
 
 -- What stands at the front of bytes: a module whose last bytes are its vendor bytes, len from start; or its fault.
 pub data Found : Type 0 where
   one : Module → (start len : ℕ) → Found
-  unfit : Refusal → Found
-
-abbrev pub faulty : ℕ → Found
-faulty k = unfit (record { number = k })
+  unfit : ℕ → Found
 
 -- how many bytes stand before the vendor bytes: the identifier x and its length bytes
 abbrev pub front_of : (x : ℕ) → ℕ
@@ -34,8 +34,8 @@ barred = 15
 -- vendor bytes as the low nibble
 abbrev pub special_by : (x left y z : ℕ) → Found
 special_by x left y z =
-    pick (eqb (x % 16) barred) (faulty 26)
-    (pick (ltb left (front_of x + x % 16)) (faulty 24) (one (special_of x y z) (front_of x) (x % 16)))
+    pick (eqb (x % 16) barred) (unfit 26)
+    (pick (ltb left (front_of x + x % 16)) (unfit 24) (one (special_of x y z) (front_of x) (x % 16)))
 
 unfoldable pub special_in : List ℕ → Found
 special_in r = special_by (get_or r 0 0) (length r) (get_or r 1 0) (get_or r (1 + get_or r 0 0 / output_bit Special % 2) 0)
@@ -58,19 +58,19 @@ first_position = position 0
 
 -- what was found at a place, by its place in the whole
 abbrev pub step_of : (at : ℕ) → Found → Step
-step_of at (one m start len) = step.Module m (at + start) len (position (at + start + len))
-step_of at (unfit r) = step.Refused r
+step_of at (one m start len) = Ok (step.Module m (at + start) len (position (at + start + len)))
+step_of at (unfit r) = Err r
 
 unfoldable pub next_of : List ℕ → (at : ℕ) → Step
 next_of s at =
-    pick (ltb (length s) at) (step.Refused (record { number = 12 }))
-    (pick (eqb at (length s)) step.End (step_of at (module_in (drop at s))))
+    pick (ltb (length s) at) (Err 12)
+    (pick (eqb at (length s)) (Ok step.End) (step_of at (module_in (drop at s))))
 
 -- ---- all modules: they end well or badly
 
 pub data Walk : Type 0 where
   end : Walk
-  bad : Refusal → Walk
+  bad : ℕ → Walk
   more : Module → (vendor : List ℕ) → Walk → Walk
 
 -- what was found in r, and then what follows its first byte, of which so many bytes still belong to the module

@@ -1,18 +1,16 @@
 -- Writing a module, and a whole configuration (document 01, "Configuration"): the bytes, and which fields may be written. A
 -- field that does not fit its bits gives 21, at its byte's place in the order.
-use Rattle.std.specs.Prelude.{Bool, true, false, not, List, [], ◌∷◌, ◌++◌, ℕ, ◌+◌, ◌-◌, ◌*◌, length, eqb, ltb, leb}
+use Rattle.std.specs.Prelude.{Bool, true, false, not, List, [], ◌∷◌, ◌++◌, ℕ, ◌+◌, ◌-◌, ◌*◌, length, eqb, ltb, leb, Ok, Err}
 use Rattle.std.specs.Bool.{beq}
 use Rattle.octets.specs.Choice.{pick, ◌and◌}
 use Rattle.octets.specs.Front.{Verdict, fine, fault}
 use Rattle.configuration.specs.Fields.{input_bit, output_bit, most_units, words_bit, consistency_bit}
-use Rattle.configuration.specs.Reading.{read_of}
+use Rattle.configuration.specs.Reading.{read_of, Reading}
 use Rattle.configuration.specs.declared.fields.Side.{Side}
 use Rattle.configuration.specs.declared.fields.Side.TheVariants.{Absent, Present}
 use Rattle.configuration.specs.declared.fields.Identifier.{Identifier}
 use Rattle.configuration.specs.declared.fields.Identifier.TheVariants.{General, Special}
 use Rattle.configuration.specs.declared.fields.Module.{Module}
-use Rattle.configuration.specs.declared.reading.Reading.{Reading}
-use Rattle.configuration.specs.declared.reading.Reading.TheVariants.{Configuration, Refused}
 
 -- ---- one side
 
@@ -104,8 +102,8 @@ vendor_start m = vendor_by m.identifier m.input m.output
 -- ---- a whole configuration: what reading would refuse is not written
 
 abbrev pub verdict_in : Reading → Verdict
-verdict_in (Configuration n i o) = fine
-verdict_in (Refused r) = fault r.number
+verdict_in (Ok found) = fine
+verdict_in (Err r) = fault r
 
 abbrev pub verdict_of : (modules : List ℕ) → Verdict
 verdict_of s = verdict_in (read_of s)

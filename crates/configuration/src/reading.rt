@@ -1,13 +1,9 @@
 // What reading a whole configuration answers.
-use octets::Refusal;
 
 // What a configuration has: its number of modules, and of input and output bytes.
-#[derive(Drop)]
-pub enum Reading {
-    Configuration {
-        modules: usize,
-        inputs: usize,
-        outputs: usize,
-    },
-    Refused(Refusal),
+#[derive(Clone, Copy)]
+pub struct Reading {
+    pub modules: usize,
+    pub inputs: usize,
+    pub outputs: usize,
 }

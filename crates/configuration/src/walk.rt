@@ -1,6 +1,5 @@
 // What a walk over the modules goes by, and what it finds.
 use crate::fields::Module;
-use octets::Refusal;
 
 // Where a module begins.
 #[derive(Clone, Copy)]
@@ -19,5 +18,4 @@ pub enum Step {
         next: Position,
     },
     End,
-    Refused(Refusal),
 }

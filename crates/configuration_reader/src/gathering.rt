@@ -1,11 +1,13 @@
 // One walk over all modules: what they add up to, and where each begins.
 ghost use Rattle.std.specs.Prelude.{◌≡◌, ◌≤◌, length, set};
+ghost use Rattle.octets.specs.Refusals.{told};
 ghost use Rattle.std.proofs.lemmas.List.Edits.{sets};
 ghost use Rattle.configuration.specs.Walk.{walk_of};
 ghost use Rattle.configuration.specs.Reading.{totals_of, input_offsets, output_offsets};
 
 use configuration::{Position, Reading, Step, side_length};
 use configuration_walk::next;
+use octets::Refusal;
 
 // Stores at place n, where the list has one.
 fn put(list: &mut [u16], n: usize, offset: u16)
@@ -19,9 +21,9 @@ fn put(list: &mut [u16], n: usize, offset: u16)
 // Counts the modules, adds up their bytes on each side, and stores the offsets that the lists have room for: none in an
 // empty list. So it serves both passes, the one that may refuse and the one that stores, and `next` has one caller,
 // into which it is compiled. The bound keeps the sums small.
-pub(crate) fn gather(s: &[u8], inputs: &mut [u16], outputs: &mut [u16]) -> Reading
+pub(crate) fn gather(s: &[u8], inputs: &mut [u16], outputs: &mut [u16]) -> Result<Reading, Refusal>
     requires { length s.now ≤ 244 }
-    ensures answer { result ≡ totals_of 0 0 0 (walk_of s.now 0) }
+    ensures answer { told result ≡ totals_of 0 0 0 (walk_of s.now 0) }
     ensures inputs { inputs.new ≡ sets inputs.old 0 (input_offsets s.now) }
     ensures outputs { outputs.new ≡ sets outputs.old 0 (output_offsets s.now) }
 {
@@ -29,34 +31,23 @@ pub(crate) fn gather(s: &[u8], inputs: &mut [u16], outputs: &mut [u16]) -> Readi
     let mut n = 0;
     let mut i = 0;
     let mut o = 0;
-    loop {
-        let step = next(s, Position { at });
-        match step {
-            Step::Module {
-                module,
-                start: _,
-                len: _,
-                next,
-            } => {
-                let input = module.input;
-                let output = module.output;
-                put(inputs, n, i as u16);
-                put(outputs, n, o as u16);
-                n += 1;
-                i += side_length(input);
-                o += side_length(output);
-                at = next.at;
-            }
-            Step::End => {
-                return Reading::Configuration {
-                    modules: n,
-                    inputs: i,
-                    outputs: o,
-                };
-            }
-            Step::Refused(refusal) => {
-                return Reading::Refused(refusal);
-            }
-        }
+    while let Step::Module {
+        module,
+        start: _,
+        len: _,
+        next,
+    } = next(s, Position { at })?
+    {
+        put(inputs, n, i as u16);
+        put(outputs, n, o as u16);
+        n += 1;
+        i += side_length(module.input);
+        o += side_length(module.output);
+        at = next.at;
     }
+    Ok(Reading {
+        modules: n,
+        inputs: i,
+        outputs: o,
+    })
 }

@@ -1,5 +1,6 @@
 // Reading a whole configuration: its modules are counted, and their bytes on each side added up.
 ghost use Rattle.std.specs.Prelude.{◌≡◌};
+ghost use Rattle.octets.specs.Refusals.{told};
 ghost use Rattle.configuration.specs.Reading.{read_of};
 
 use crate::gathering::gather;
@@ -7,36 +8,22 @@ use configuration::Reading;
 use octets::Refusal;
 
 // Reads a configuration: all of the lent slice is one.
-pub fn read(bytes: &[u8]) -> Reading
-    ensures { result ≡ read_of bytes.now }
+#[tactic(auto, unfolding(configuration::specs::Reading::read_of, configuration::specs::Reading::within_limit))]
+pub fn read(bytes: &[u8]) -> Result<Reading, Refusal>
+    ensures { told result ≡ read_of bytes.now }
 {
     if bytes.len() < 1 {
-        return Reading::Refused(Refusal { number: 20 });
+        return Err(Refusal::DataLength);
     }
     if 244 < bytes.len() {
-        return Reading::Refused(Refusal { number: 20 });
+        return Err(Refusal::DataLength);
     }
-    let mut no_inputs: [u16; 0] = [0; 0];
-    let mut no_outputs: [u16; 0] = [0; 0];
-    let reading = gather(bytes, &mut no_inputs, &mut no_outputs);
-    match reading {
-        Reading::Configuration {
-            modules,
-            inputs,
-            outputs,
-        } => {
-            if 244 < inputs {
-                return Reading::Refused(Refusal { number: 27 });
-            }
-            if 244 < outputs {
-                return Reading::Refused(Refusal { number: 27 });
-            }
-            Reading::Configuration {
-                modules,
-                inputs,
-                outputs,
-            }
-        }
-        Reading::Refused(refusal) => Reading::Refused(refusal),
+    let reading = gather(bytes, &mut [], &mut [])?;
+    if 244 < reading.inputs {
+        return Err(Refusal::OverLimit);
     }
+    if 244 < reading.outputs {
+        return Err(Refusal::OverLimit);
+    }
+    Ok(reading)
 }

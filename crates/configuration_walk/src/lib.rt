@@ -2,6 +2,7 @@
 #![tactic(auto)]
 
 ghost use Rattle.std.specs.Prelude.{◌≡◌, ◌+◌, ◌≤◌, ◌<◌, length, get_or, drop};
+ghost use Rattle.octets.specs.Refusals.{told};
 ghost use Rattle.configuration.specs.Fields.{side_if, general_of, length_byte};
 ghost use Rattle.configuration.specs.Walk.{first_position, step_of, special_in, next_of};
 
@@ -23,6 +24,7 @@ fn side_if(bit: u8, units: u8, x: u8) -> Side
 }
 
 // The general format: one byte says all.
+#[tactic(auto, unfolding(configuration::specs::Fields::general_of))]
 fn general(x: u8) -> Module
     ensures { result ≡ general_of x }
 {
@@ -49,21 +51,22 @@ fn length_byte(s: &[u8], at: usize, bit: u8) -> Side
 }
 
 // The special format: length bytes, output's before input's, and vendor bytes.
-fn special(s: &[u8], at: usize) -> Step
+#[tactic(auto, unfolding(configuration::specs::Fields::special_of, configuration::specs::Walk::special_in))]
+fn special(s: &[u8], at: usize) -> Result<Step, Refusal>
     requires { at < length s.now }
-    ensures { result ≡ step_of at (special_in (drop at s.now)) }
+    ensures { told result ≡ step_of at (special_in (drop at s.now)) }
 {
     let x = s[at];
     let vendor = x % 16;
     if vendor == 15 {
-        return Step::Refused(Refusal { number: 26 });
+        return Err(Refusal::VendorCount);
     }
     let has_output = x / 128 % 2;
     let has_input = x / 64 % 2;
     let front = (1 + has_output + has_input) as usize;
     let len = vendor as usize;
     if s.len() - at < front + len {
-        return Step::Refused(Refusal { number: 24 });
+        return Err(Refusal::PastTheData);
     }
     let output = length_byte(s, at + 1, has_output);
     let input = length_byte(s, at + 1 + has_output as usize, has_input);
@@ -72,14 +75,14 @@ fn special(s: &[u8], at: usize) -> Step
         input,
         output,
     };
-    Step::Module {
+    Ok(Step::Module {
         module,
         start: at + front,
         len,
         next: Position {
             at: at + front + len,
         },
-    }
+    })
 }
 
 // Where the first module begins.
@@ -91,25 +94,26 @@ pub fn first() -> Position
 
 // The module at a position, the end, or the refusal that reading gives there. A position past the end
 // is the caller's fault.
-pub fn next(bytes: &[u8], position: Position) -> Step
-    ensures { result ≡ next_of bytes.now position.at }
+#[tactic(auto, unfolding(configuration::specs::Walk::next_of, configuration::specs::Walk::module_in))]
+pub fn next(bytes: &[u8], position: Position) -> Result<Step, Refusal>
+    ensures { told result ≡ next_of bytes.now position.at }
 {
     let at = position.at;
     if bytes.len() < at {
-        return Step::Refused(Refusal { number: 12 });
+        return Err(Refusal::Field);
     }
     if at == bytes.len() {
-        return Step::End;
+        return Ok(Step::End);
     }
     let x = bytes[at];
     if x / 16 % 4 == 0 {
         return special(bytes, at);
     }
     let module = general(x);
-    Step::Module {
+    Ok(Step::Module {
         module,
         start: at + 1,
         len: 0,
         next: Position { at: at + 1 },
-    }
+    })
 }

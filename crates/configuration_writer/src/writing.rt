@@ -1,11 +1,12 @@
 // Writing a module from its fields, and a whole configuration from the bytes of its modules.
 ghost use Rattle.std.specs.Prelude.{◌≡◌, true, [], ◌∷◌, ◌++◌, ◌≤◌, length};
+ghost use Rattle.octets.specs.Refusals.{told};
 ghost use Rattle.octets.specs.Front.{AtFront, answer_by, held_by};
 ghost use Rattle.configuration.specs.Writing.{presence, side_byte, good_units, good_side, good_general, either_side, side_bytes, general_byte, general_verdict, special_bytes, special_verdict, module_verdict, module_bytes, verdict_of};
 
-use configuration::{Identifier, Module, Reading, Side};
+use configuration::{Identifier, Module, Side};
 use configuration_reader::read;
-use octets::Written;
+use octets::Refusal;
 
 // How many bytes the length of a side takes in the special format, which is also its bit.
 fn present(side: Side) -> u8
@@ -44,6 +45,7 @@ fn good_side(most: u8, side: Side) -> bool
 }
 
 // Whether one byte can say both sides: there is one, or two that are alike.
+#[tactic(auto, unfolding(configuration::specs::Writing::good_general))]
 fn good_general(input: Side, output: Side) -> bool
     ensures { result ≡ good_general input output }
 {
@@ -119,21 +121,22 @@ fn general_byte(input: Side, output: Side) -> u8
     16 * present(input) + 32 * present(output) + side_byte(side)
 }
 
-fn write_general(input: Side, output: Side, vendor: &[u8], out: &mut [u8]) -> Written
-    ensures answer { result ≡ answer_by (general_verdict input output vendor.now) (general_byte input output ∷ []) (length out.old) }
+#[tactic(auto, unfolding(configuration::specs::Writing::general_verdict, octets::specs::Front::answer_by, octets::specs::Front::held_by))]
+fn write_general(input: Side, output: Side, vendor: &[u8], out: &mut [u8]) -> Result<usize, Refusal>
+    ensures answer { told result ≡ answer_by (general_verdict input output vendor.now) (general_byte input output ∷ []) (length out.old) }
     ensures bytes { out.new ≡ held_by (general_verdict input output vendor.now) (general_byte input output ∷ []) out.old }
 {
     if 0 < vendor.len() {
-        return Written::Refused(20);
+        return Err(Refusal::DataLength);
     }
     if !good_general(input, output) {
-        return Written::Refused(21);
+        return Err(Refusal::DataByte);
     }
     if out.len() < 1 {
-        return Written::Refused(11);
+        return Err(Refusal::NoRoom);
     }
     out[0] = general_byte(input, output);
-    Written::Stored(1)
+    Ok(1)
 }
 
 fn put_side(side: Side, out: &mut [u8]) -> usize
@@ -180,32 +183,33 @@ fn put_special(input: Side, output: Side, vendor: &[u8], out: &mut [u8]) -> usiz
     1 + put_output(output, input, vendor, &mut out[1..])
 }
 
-fn write_special(input: Side, output: Side, vendor: &[u8], out: &mut [u8]) -> Written
-    ensures answer { result ≡ answer_by (special_verdict input output vendor.now) (special_bytes input output vendor.now) (length out.old) }
+#[tactic(auto, using(configuration::proofs::Lemmas::Sides::special_length_lem), unfolding(configuration::specs::Writing::special_verdict, octets::specs::Front::answer_by, octets::specs::Front::held_by))]
+fn write_special(input: Side, output: Side, vendor: &[u8], out: &mut [u8]) -> Result<usize, Refusal>
+    ensures answer { told result ≡ answer_by (special_verdict input output vendor.now) (special_bytes input output vendor.now) (length out.old) }
     ensures bytes { out.new ≡ held_by (special_verdict input output vendor.now) (special_bytes input output vendor.now) out.old }
 {
     if 15 < vendor.len() {
-        return Written::Refused(21);
+        return Err(Refusal::DataByte);
     }
     if vendor.len() == 15 {
-        return Written::Refused(26);
+        return Err(Refusal::VendorCount);
     }
     if !good_side(64, output) {
-        return Written::Refused(21);
+        return Err(Refusal::DataByte);
     }
     if !good_side(64, input) {
-        return Written::Refused(21);
+        return Err(Refusal::DataByte);
     }
     let front = 1 + present(output) + present(input);
     if out.len() < front as usize + vendor.len() {
-        return Written::Refused(11);
+        return Err(Refusal::NoRoom);
     }
-    Written::Stored(put_special(input, output, vendor, out))
+    Ok(put_special(input, output, vendor, out))
 }
 
 // Writes one module from its fields and vendor bytes.
-pub fn write_module(fields: Module, vendor: &[u8], out: &mut [u8]) -> Written
-    ensures answer { result ≡ answer_by (module_verdict fields vendor.now) (module_bytes fields vendor.now) (length out.old) }
+pub fn write_module(fields: Module, vendor: &[u8], out: &mut [u8]) -> Result<usize, Refusal>
+    ensures answer { told result ≡ answer_by (module_verdict fields vendor.now) (module_bytes fields vendor.now) (length out.old) }
     ensures bytes { out.new ≡ held_by (module_verdict fields vendor.now) (module_bytes fields vendor.now) out.old }
 {
     let identifier = fields.identifier;
@@ -219,22 +223,14 @@ pub fn write_module(fields: Module, vendor: &[u8], out: &mut [u8]) -> Written
 
 // Writes a whole configuration from its modules' bytes, one after the other: what reading would refuse
 // is refused with the same number.
-pub fn write(modules: &[u8], out: &mut [u8]) -> Written
-    ensures answer { result ≡ answer_by (verdict_of modules.now) modules.now (length out.old) }
+#[tactic(auto, unfolding(octets::specs::Front::answer_by, octets::specs::Front::held_by, octets::specs::Front::front_of, octets::specs::Front::count_of))]
+pub fn write(modules: &[u8], out: &mut [u8]) -> Result<usize, Refusal>
+    ensures answer { told result ≡ answer_by (verdict_of modules.now) modules.now (length out.old) }
     ensures bytes { out.new ≡ held_by (verdict_of modules.now) modules.now out.old }
 {
-    let reading = read(modules);
-    match reading {
-        Reading::Refused(refusal) => Written::Refused(refusal.number),
-        Reading::Configuration {
-            modules: _,
-            inputs: _,
-            outputs: _,
-        } => {
-            if out.len() < modules.len() {
-                return Written::Refused(11);
-            }
-            Written::Stored(octets::store(modules, out))
-        }
+    read(modules)?;
+    if out.len() < modules.len() {
+        return Err(Refusal::NoRoom);
     }
+    Ok(octets::store(modules, out))
 }

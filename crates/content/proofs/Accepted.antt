@@ -1,57 +1,43 @@
 -- Which user data are accepted, by their service and their way: each service's own bytes, in plain arithmetic.
-use Rattle.std.specs.Prelude.{ℕ, ◌≤◌, ◌≡◌, refl, Bool, true, false, List, [], ◌↔◌, length, ltb}
+use Rattle.std.specs.Prelude.{ℕ, ◌≤◌, ◌≡◌, refl, Bool, true, false, List, [], ◌↔◌, length, ltb, Ok, Err}
 use Rattle.std.proofs.Common.{sym, ◌∙◌, arith, ltb-false, le-ltb}
 use Rattle.octets.proofs.Choice.{by_pick, never}
 use Rattle.octets.specs.Number.{bytes_of}
 use Rattle.octets.specs.declared.Mode.{Mode}
 use Rattle.octets.specs.declared.Mode.TheVariants as mode
-use Rattle.acyclic.specs.Answers.{read_answer_of}
-use Rattle.acyclic.specs.Calls.{read_call_of}
+use Rattle.acyclic.specs.Answers.{read_answer_of, AnswerReading}
+use Rattle.acyclic.specs.Calls.{read_call_of, CallReading}
 use Rattle.acyclic.specs.Bytes.{CallBytes, call_accepted, AnswerBytes, answer_accepted}
 use Rattle.acyclic.proofs.Accepted.{call_accepted_lem, answer_accepted_lem}
-use Rattle.acyclic.specs.declared.answers.AnswerReading.{AnswerReading}
-use Rattle.acyclic.specs.declared.answers.AnswerReading.TheVariants as answer-reading
-use Rattle.acyclic.specs.declared.calls.CallReading.{CallReading}
-use Rattle.acyclic.specs.declared.calls.CallReading.TheVariants as call-reading
 use Rattle.address_change.specs.Address as address
 use Rattle.address_change.proofs.Accepted as address_accepted
 use Rattle.address_change.specs.Accepted as address_accepted_words
-use Rattle.address_change.specs.declared.AddressReading.{AddressReading}
-use Rattle.address_change.specs.declared.AddressReading.TheVariants as address-reading
+use Rattle.address_change.specs.Address.{AddressReading}
 use Rattle.configuration.specs.Reading as configuration
 use Rattle.configuration.specs.Contents as configuration-contents
 use Rattle.configuration.specs.Bytes.{IsConfiguration}
 use Rattle.configuration.proofs.Accepted.{configuration_accepted}
-use Rattle.configuration.specs.declared.reading.Reading as configuration-type
-use Rattle.configuration.specs.declared.reading.Reading.TheVariants as configuration-reading
 use Rattle.control.specs.Command as command
 use Rattle.control.proofs.Accepted as command_accepted
 use Rattle.control.specs.Accepted as command_accepted_words
-use Rattle.control.specs.declared.command.CommandReading.{CommandReading}
-use Rattle.control.specs.declared.command.CommandReading.TheVariants as command-reading
+use Rattle.control.specs.Command.{CommandReading}
 use Rattle.diagnosis.specs.Reading as diagnosis
 use Rattle.diagnosis.specs.Contents as diagnosis-contents
 use Rattle.diagnosis.specs.Bytes.{IsDiagnosis}
 use Rattle.diagnosis.proofs.Accepted.{diagnosis_accepted}
-use Rattle.diagnosis.specs.declared.reading.Reading as diagnosis-type
-use Rattle.diagnosis.specs.declared.reading.Reading.TheVariants as diagnosis-reading
 use Rattle.parameters.specs.Reading as parameters
 use Rattle.parameters.proofs.Accepted as parameters_accepted
 use Rattle.parameters.specs.Accepted as parameters_accepted_words
-use Rattle.parameters.specs.declared.reading.Reading as parameters-type
-use Rattle.parameters.specs.declared.reading.Reading.TheVariants as parameters-reading
 use Rattle.access.specs.declared.table.Service.{Service}
 use Rattle.access.specs.declared.table.Service.TheVariants as service
 use Rattle.access.specs.declared.route.Answering.{Answering}
 use Rattle.access.specs.declared.route.Answering.TheVariants as answering
-use Rattle.content.specs.Reading.{plain_of, empty_of, address_in, command_in, diagnosis_in, parameters_in, configuration_in, dpv1_call_in, dpv1_answer_in, call_of, answer_of}
+use Rattle.content.specs.Reading.{plain_of, empty_of, address_in, command_in, diagnosis_in, parameters_in, configuration_in, dpv1_call_in, dpv1_answer_in, call_of, answer_of, UserData}
 use Rattle.content.specs.declared.fields.Content.{Content}
-use Rattle.content.specs.declared.reading.UserData.{UserData}
-use Rattle.content.specs.declared.reading.UserData.TheVariants.{Is, Refused}
 
 abbrev pub accepted : UserData → Bool
-accepted (Is c start len) = true
-accepted (Refused r) = false
+accepted (Ok found) = true
+accepted (Err r) = false
 
 -- ---- the bytes
 
@@ -98,32 +84,32 @@ empty c n = (
 )
 
 of_address : (r : AddressReading) → accepted (address_in r) ≡ address_accepted_words.accepted r
-of_address (address-reading.Change f start len) = refl
-of_address (address-reading.Refused r) = refl
+of_address (Ok found) = refl
+of_address (Err r) = refl
 
 of_command : (r : CommandReading) → accepted (command_in r) ≡ command_accepted_words.accepted r
-of_command (command-reading.Command f start len) = refl
-of_command (command-reading.Refused r) = refl
+of_command (Ok found) = refl
+of_command (Err r) = refl
 
-of_diagnosis : (r : diagnosis-type.Reading) (len : ℕ) → accepted (diagnosis_in r len) ≡ diagnosis-contents.accepted r
-of_diagnosis (diagnosis-reading.Diagnosis h blocks) len = refl
-of_diagnosis (diagnosis-reading.Refused r) len = refl
+of_diagnosis : (r : diagnosis.Reading) (len : ℕ) → accepted (diagnosis_in r len) ≡ diagnosis-contents.accepted r
+of_diagnosis (Ok found) len = refl
+of_diagnosis (Err r) len = refl
 
-of_parameters : (r : parameters-type.Reading) → accepted (parameters_in r) ≡ parameters_accepted_words.accepted r
-of_parameters (parameters-reading.Parameters f start len) = refl
-of_parameters (parameters-reading.Refused r) = refl
+of_parameters : (r : parameters.Reading) → accepted (parameters_in r) ≡ parameters_accepted_words.accepted r
+of_parameters (Ok found) = refl
+of_parameters (Err r) = refl
 
-of_configuration : (c : Content) (r : configuration-type.Reading) (len : ℕ) → accepted (configuration_in c r len) ≡ configuration-contents.accepted r
-of_configuration c (configuration-reading.Configuration modules i o) len = refl
-of_configuration c (configuration-reading.Refused r) len = refl
+of_configuration : (c : Content) (r : configuration.Reading) (len : ℕ) → accepted (configuration_in c r len) ≡ configuration-contents.accepted r
+of_configuration c (Ok found) len = refl
+of_configuration c (Err r) len = refl
 
 of_call : (r : CallReading) → accepted (dpv1_call_in r) ≡ call_accepted r
-of_call (call-reading.Call c start len) = refl
-of_call (call-reading.Refused r) = refl
+of_call (Ok found) = refl
+of_call (Err r) = refl
 
 of_answer : (r : AnswerReading) → accepted (dpv1_answer_in r) ≡ answer_accepted r
-of_answer (answer-reading.Answer x start len) = refl
-of_answer (answer-reading.Refused r) = refl
+of_answer (Ok found) = refl
+of_answer (Err r) = refl
 
 -- ---- each service
 

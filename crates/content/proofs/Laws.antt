@@ -1,5 +1,5 @@
 -- The customer's second demand for the user data of every service, both ways, and where the part lies.
-use Rattle.std.specs.Prelude.{ℕ, ◌+◌, ◌≤◌, ◌≡◌, List, length}
+use Rattle.std.specs.Prelude.{ℕ, ◌+◌, ◌≤◌, ◌≡◌, List, length, Ok}
 use Rattle.std.proofs.Common.{subst}
 use Rattle.octets.specs.Bytes.{Bytes}
 use Rattle.octets.specs.Part.{part_of}
@@ -16,7 +16,6 @@ use Rattle.content.proofs.Lemmas.Back.{call_back, answer_back}
 use Rattle.content.proofs.Lemmas.Inside as inside
 use Rattle.content.proofs.Lemmas.Lengths as lengths
 use Rattle.content.specs.declared.fields.Content.{Content}
-use Rattle.content.specs.declared.reading.UserData.TheVariants.{Is}
 
 -- The fields take ten bytes at most.
 pub fixed_small : (c : Content) → fixed_length c ≤ 10
@@ -31,12 +30,12 @@ module _ (c : Content) (part : List ℕ) where
 
   -- (a) What is written reads back, in the version that it was written in, as the same fields and the same part.
   pub call_reads_back : (m : Mode) → IdentFits c → ModeFits c m → call_verdict c part ≡ fine
-      → (call_of (service_of c) (bytes_for c part) m ≡ Is c (fixed_length c) (length part)) × (part_of (bytes_for c part) (fixed_length c) (length part) ≡ part)
+      → (call_of (service_of c) (bytes_for c part) m ≡ Ok (record { fields = c; start = fixed_length c; len = length part })) × (part_of (bytes_for c part) (fixed_length c) (length part) ≡ part)
   call_reads_back m i f e = (call_back part c m i f e, lengths.part_back c part)
 
   -- (a), of answers: from the service whose content it is
   pub answer_reads_back : (a : Answering) → answerer_of a ≡ service_of c → IdentFits c → answer_verdict c part ≡ fine
-      → (answer_of a (bytes_for c part) ≡ Is c (fixed_length c) (length part)) × (part_of (bytes_for c part) (fixed_length c) (length part) ≡ part)
+      → (answer_of a (bytes_for c part) ≡ Ok (record { fields = c; start = fixed_length c; len = length part })) × (part_of (bytes_for c part) (fixed_length c) (length part) ≡ part)
   answer_reads_back a s i e = (answer_back part c a i s e, lengths.part_back c part)
 
 -- ---- what is read
@@ -44,11 +43,11 @@ module _ (c : Content) (part : List ℕ) where
 module _ (u : List ℕ) (bytes : Bytes u) {c : Content} {start len : ℕ} where
   -- (b) What is read is of the service and in the version that it was read in, may be written, and gives the same bytes again. Its ident
   -- number has two bytes.
-  pub call_writes_back : (s : Service) (m : Mode) → call_of s u m ≡ Is c start len → Again call_verdict (λ x. Fits x m) s u c start len
+  pub call_writes_back : (s : Service) (m : Mode) → call_of s u m ≡ Ok (record { fields = c; start = start; len = len }) → Again call_verdict (λ x. Fits x m) s u c start len
   call_writes_back s m e = subst (Holds (Again call_verdict (λ x. Fits x m) s u)) e (call_again u bytes m s)
 
   -- (b), of answers, which are of every version
-  pub answer_writes_back : (a : Answering) → answer_of a u ≡ Is c start len → Again answer_verdict FitsEvery (answerer_of a) u c start len
+  pub answer_writes_back : (a : Answering) → answer_of a u ≡ Ok (record { fields = c; start = start; len = len }) → Again answer_verdict FitsEvery (answerer_of a) u c start len
   answer_writes_back a e = subst (Holds (Again answer_verdict FitsEvery (answerer_of a) u)) e (answer_again u bytes a)
 
 -- The part lies inside the user data.

@@ -1,53 +1,40 @@
 -- Every refusal of user data, read or to be written, has a number of document 01's table, whatever service they are of.
-use Rattle.std.specs.Prelude.{◌≡◌, refl, true, List, ℕ, length}
+use Rattle.std.specs.Prelude.{◌≡◌, refl, true, List, ℕ, length, Ok, Err}
 use Rattle.octets.proofs.Choice.{through, alike}
 use Rattle.octets.specs.Front.{Verdict, fine, fault}
 use Rattle.octets.specs.Refusals.{listed, numbered}
 use Rattle.octets.specs.declared.Mode.{Mode}
 use Rattle.acyclic.proofs.Refusals as acyclic
 use Rattle.acyclic.specs.Refusals as acyclic_words
-use Rattle.acyclic.specs.Answers.{read_answer_of}
-use Rattle.acyclic.specs.Calls.{read_call_of}
-use Rattle.acyclic.specs.declared.answers.AnswerReading.{AnswerReading}
-use Rattle.acyclic.specs.declared.answers.AnswerReading.TheVariants as answer-reading
-use Rattle.acyclic.specs.declared.calls.CallReading.{CallReading}
-use Rattle.acyclic.specs.declared.calls.CallReading.TheVariants as call-reading
+use Rattle.acyclic.specs.Answers.{read_answer_of, AnswerReading}
+use Rattle.acyclic.specs.Calls.{read_call_of, CallReading}
 use Rattle.address_change.proofs.Refusals as address
 use Rattle.address_change.specs.Address as address-format
-use Rattle.address_change.specs.declared.AddressReading.{AddressReading}
-use Rattle.address_change.specs.declared.AddressReading.TheVariants as address-reading
+use Rattle.address_change.specs.Address.{AddressReading}
 use Rattle.configuration.proofs.Refusals as configuration
 use Rattle.configuration.specs.Reading as configuration-format
 use Rattle.configuration.specs.Writing.{verdict_in}
-use Rattle.configuration.specs.declared.reading.Reading as configuration-type
-use Rattle.configuration.specs.declared.reading.Reading.TheVariants as configuration-reading
 use Rattle.control.proofs.Refusals as command
 use Rattle.control.specs.Command as command-format
-use Rattle.control.specs.declared.command.CommandReading.{CommandReading}
-use Rattle.control.specs.declared.command.CommandReading.TheVariants as command-reading
+use Rattle.control.specs.Command.{CommandReading}
+use Rattle.diagnosis.specs.Writing.{verdict_by}
 use Rattle.diagnosis.proofs.Refusals as diagnosis
 use Rattle.diagnosis.specs.Reading as diagnosis-format
-use Rattle.diagnosis.specs.declared.reading.Reading as diagnosis-type
-use Rattle.diagnosis.specs.declared.reading.Reading.TheVariants as diagnosis-reading
 use Rattle.parameters.proofs.Refusals as parameters
 use Rattle.parameters.specs.Reading as parameters-format
-use Rattle.parameters.specs.declared.reading.Reading as parameters-type
-use Rattle.parameters.specs.declared.reading.Reading.TheVariants as parameters-reading
 use Rattle.access.specs.declared.table.Service.{Service}
 use Rattle.access.specs.declared.table.Service.TheVariants as service
 use Rattle.access.specs.declared.route.Answering.{Answering}
 use Rattle.access.specs.declared.route.Answering.TheVariants as answering
-use Rattle.content.specs.Reading.{plain_of, empty_of, address_in, command_in, diagnosis_in, parameters_in, configuration_in, dpv1_call_in, dpv1_answer_in, call_of, answer_of}
+use Rattle.content.specs.Reading.{plain_of, empty_of, address_in, command_in, diagnosis_in, parameters_in, configuration_in, dpv1_call_in, dpv1_answer_in, call_of, answer_of, UserData}
 use Rattle.content.specs.Writing.{at_most, call_verdict, answer_verdict}
 use Rattle.content.specs.declared.fields.Content.{Content}
 use Rattle.content.specs.declared.fields.Content.TheVariants as content
-use Rattle.content.specs.declared.reading.UserData.{UserData}
-use Rattle.content.specs.declared.reading.UserData.TheVariants.{Is, Refused}
 
 -- the verdict that user data came to
 abbrev pub data_verdict : UserData → Verdict
-data_verdict (Is c start len) = fine
-data_verdict (Refused r) = fault r.number
+data_verdict (Ok found) = fine
+data_verdict (Err r) = fault r
 
 -- ---- reading: each format
 
@@ -60,33 +47,33 @@ unfolding empty_of listed
 empty c len = simp (through data_verdict, through numbered, alike)
 
 address_in_lem : (r : AddressReading) → numbered (address.verdict_in r) ≡ true → numbered (data_verdict (address_in r)) ≡ true
-address_in_lem (address-reading.Change f start len) h = refl
-address_in_lem (address-reading.Refused r) h = h
+address_in_lem (Ok found) h = refl
+address_in_lem (Err r) h = h
 
 command_in_lem : (r : CommandReading) → numbered (command.verdict_in r) ≡ true → numbered (data_verdict (command_in r)) ≡ true
-command_in_lem (command-reading.Command f start len) h = refl
-command_in_lem (command-reading.Refused r) h = h
+command_in_lem (Ok found) h = refl
+command_in_lem (Err r) h = h
 
-diagnosis_in_lem : (r : diagnosis-type.Reading) (len : ℕ) → numbered (diagnosis.verdict_in r) ≡ true → numbered (data_verdict (diagnosis_in r len)) ≡ true
-diagnosis_in_lem (diagnosis-reading.Diagnosis h blocks) len e = refl
-diagnosis_in_lem (diagnosis-reading.Refused r) len e = e
+diagnosis_in_lem : (r : diagnosis-format.Reading) (len : ℕ) → numbered (verdict_by r) ≡ true → numbered (data_verdict (diagnosis_in r len)) ≡ true
+diagnosis_in_lem (Ok found) len e = refl
+diagnosis_in_lem (Err r) len e = e
 
-parameters_in_lem : (r : parameters-type.Reading) → numbered (parameters.verdict_in r) ≡ true → numbered (data_verdict (parameters_in r)) ≡ true
-parameters_in_lem (parameters-reading.Parameters f start len) h = refl
-parameters_in_lem (parameters-reading.Refused r) h = h
+parameters_in_lem : (r : parameters-format.Reading) → numbered (parameters.verdict_in r) ≡ true → numbered (data_verdict (parameters_in r)) ≡ true
+parameters_in_lem (Ok found) h = refl
+parameters_in_lem (Err r) h = h
 
-configuration_in_lem : (c : Content) (r : configuration-type.Reading) (len : ℕ) → numbered (verdict_in r) ≡ true
+configuration_in_lem : (c : Content) (r : configuration-format.Reading) (len : ℕ) → numbered (verdict_in r) ≡ true
     → numbered (data_verdict (configuration_in c r len)) ≡ true
-configuration_in_lem c (configuration-reading.Configuration n i o) len h = refl
-configuration_in_lem c (configuration-reading.Refused r) len h = h
+configuration_in_lem c (Ok found) len h = refl
+configuration_in_lem c (Err r) len h = h
 
 call_in_lem : (r : CallReading) → numbered (acyclic_words.call_verdict r) ≡ true → numbered (data_verdict (dpv1_call_in r)) ≡ true
-call_in_lem (call-reading.Call c start len) h = refl
-call_in_lem (call-reading.Refused r) h = h
+call_in_lem (Ok found) h = refl
+call_in_lem (Err r) h = h
 
 answer_in_lem : (r : AnswerReading) → numbered (acyclic_words.answer_verdict r) ≡ true → numbered (data_verdict (dpv1_answer_in r)) ≡ true
-answer_in_lem (answer-reading.Answer x start len) h = refl
-answer_in_lem (answer-reading.Refused r) h = h
+answer_in_lem (Ok found) h = refl
+answer_in_lem (Err r) h = h
 
 -- ---- reading: each service
 

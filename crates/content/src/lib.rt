@@ -4,7 +4,5 @@
 #![tactic(auto)]
 
 mod fields;
-mod reading;
 
 pub use fields::{Content, fixed_length, service_of};
-pub use reading::UserData;

@@ -1,5 +1,5 @@
 -- Both ways between a global command and its bytes.
-use Rattle.std.specs.Prelude.{ℕ, ◌+◌, ◌-◌, ◌≤◌, ◌≡◌, not, List, eqb}
+use Rattle.std.specs.Prelude.{ℕ, ◌+◌, ◌-◌, ◌≤◌, ◌≡◌, not, List, eqb, Ok, Err}
 use Rattle.std.proofs.Common.{sym, ap, ◌∙◌, length-append}
 use native.Mathlib.Omega.{arith}
 use Rattle.std.proofs.Math.ListN.{length}
@@ -9,22 +9,20 @@ use Rattle.octets.specs.Part.{part_of}
 use Rattle.octets.specs.Front.{fine}
 use Rattle.octets.specs.Fixed.{judged}
 use Rattle.octets.proofs.Fixed.{by_verdict, passed, part_long, part_tiles}
-use Rattle.control.specs.Command.{verdict_of, refused, fields_in, read_of, fixed_bytes, bytes_for, verdict_for}
+use Rattle.control.specs.Command.{verdict_of, refused, fields_in, read_of, fixed_bytes, bytes_for, verdict_for, CommandReading}
 use Rattle.control.specs.declared.command.GlobalCommand.{GlobalCommand}
-use Rattle.control.specs.declared.command.CommandReading.{CommandReading}
-use Rattle.control.specs.declared.command.CommandReading.TheVariants.{Command, Refused}
 
-pub alike : (f : GlobalCommand) (rest : List ℕ) → read_of (bytes_for f rest) ≡ judged refused (verdict_for f rest) (Command f 2 (length rest))
+pub alike : (f : GlobalCommand) (rest : List ℕ) → read_of (bytes_for f rest) ≡ judged refused (verdict_for f rest) (Ok (record { fields = f; start = 2; len = length rest }))
 unfolding read_of
 alike f rest =
     let len : 2 + length rest - 2 ≡ length rest = omega arith in
-    ap (λ (n : ℕ). judged refused (verdict_of f n) (Command f 2 (n - 2))) (length-append (fixed_bytes f) rest)
-    ∙ ap (λ (n : ℕ). judged refused (verdict_for f rest) (Command f 2 n)) len
+    ap (λ (n : ℕ). judged refused (verdict_of f n) (Ok (record { fields = f; start = 2; len = n - 2 }))) (length-append (fixed_bytes f) rest)
+    ∙ ap (λ (n : ℕ). judged refused (verdict_for f rest) (Ok (record { fields = f; start = 2; len = n }))) len
 
 module _ (s : List ℕ) where
   abbrev pub Again : CommandReading → Type 0
-  Again (Command f start len) = (verdict_for f (part_of s start len) ≡ fine) × (bytes_for f (part_of s start len) ≡ s)
-  Again (Refused r) = Unit
+  Again (Ok found) = (verdict_for found.fields (part_of s found.start found.len) ≡ fine) × (bytes_for found.fields (part_of s found.start found.len) ≡ s)
+  Again (Err r) = Unit
 
   module _ (good : verdict_of (fields_in s) (length s) ≡ fine) where
     long : 2 ≤ length s

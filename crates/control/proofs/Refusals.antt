@@ -1,18 +1,16 @@
 -- Every refusal of Global_Control, read or to be written, has a number of document 01's table.
-use Rattle.std.specs.Prelude.{ℕ, ◌≡◌, refl, true, List}
+use Rattle.std.specs.Prelude.{ℕ, ◌≡◌, refl, true, List, Ok, Err}
 use Rattle.octets.proofs.Choice.{through, alike}
 use Rattle.octets.specs.Front.{Verdict, fine, fault}
 use Rattle.octets.specs.Refusals.{listed, numbered}
 use Rattle.octets.proofs.Refusals.{judged_numbered}
-use Rattle.control.specs.Command.{verdict_of, refused, read_of}
+use Rattle.control.specs.Command.{verdict_of, refused, read_of, CommandReading}
 use Rattle.control.specs.declared.command.GlobalCommand.{GlobalCommand}
-use Rattle.control.specs.declared.command.CommandReading.{CommandReading}
-use Rattle.control.specs.declared.command.CommandReading.TheVariants.{Command, Refused}
 
 -- the verdict that a reading came to
 abbrev pub verdict_in : CommandReading → Verdict
-verdict_in (Command f start len) = fine
-verdict_in (Refused r) = fault r.number
+verdict_in (Ok found) = fine
+verdict_in (Err r) = fault r
 
 pub verdict_numbered : (f : GlobalCommand) (size : ℕ) → numbered (verdict_of f size) ≡ true
 unfolding verdict_of listed

@@ -1,14 +1,13 @@
 -- Which bytes are a global command (document 01, "Services by access point"), in plain arithmetic.
 use Prim.Native.Nat.{ℕ, ◌%◌, ◌<◌}
-use Rattle.std.specs.Prelude.{◌≡◌, Bool, false, List, length}
+use Rattle.std.specs.Prelude.{◌≡◌, Bool, false, List, length, Ok, Err}
 use Rattle.std.proofs.Math.Bool.{true}
 use Rattle.std.proofs.Math.ListN.{get_or}
-use Rattle.control.specs.declared.command.CommandReading.{CommandReading}
-use Rattle.control.specs.declared.command.CommandReading.TheVariants.{Command, Refused}
+use Rattle.control.specs.Command.{CommandReading}
 
 abbrev pub accepted : CommandReading → Bool
-accepted (Command f start len) = true
-accepted (Refused r) = false
+accepted (Ok found) = true
+accepted (Err r) = false
 
 pub record CommandBytes (s : List ℕ) : Type 0 where
   pub two : length s ≡ 2

@@ -3,4 +3,4 @@
 
 mod command;
 
-pub use command::{CommandReading, GlobalCommand, read_global_command, write_global_command};
+pub use command::{GlobalCommand, read_global_command, write_global_command};

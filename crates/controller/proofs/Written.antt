@@ -1,4 +1,5 @@
 -- What a written request is.
+use Rattle.std.specs.Prelude.{Err}
 use Prim.Native.Nat.{ℕ, ◌+◌, ◌-◌, ◌≤◌, ◌<◌}
 use mathlib.Core.Path.{◌≡◌, refl, sym, ◌∙◌}
 use mathlib.Core.Bool.{Bool, true, false}
@@ -9,9 +10,8 @@ use lib.ListN.{length}
 use borrow.Rule.Slice.PartMut.{mid_of, put_mid}
 use borrow.Author.Tests.{ltb-true, ltb-false, le-leb, lt-leb, lt-ltb}
 use Rattle.octets.proofs.Choice.{by_pick}
-use Rattle.octets.specs.Front.{fine, AtFront, answer_by, held_by}
+use Rattle.octets.specs.Front.{fine, AtFront, answer_by, held_by, Written}
 use Rattle.octets.proofs.Fixed.{fault_fine}
-use Rattle.octets.specs.declared.Written.{Written}
 use Rattle.fdl.specs.Around.{user_in, good_fields}
 use Rattle.fdl.proofs.Lemmas.Around.{fit}
 use Rattle.fdl.specs.Writing.{telegram_of, user_start}
@@ -30,9 +30,7 @@ use Rattle.protocol.specs.Line.{go}
 use Rattle.protocol.proofs.Lemmas.Read.{write_fine}
 use Rattle.protocol.specs.Telegrams.{counted_code}
 use Rattle.protocol.specs.Check.{stored_in}
-use Rattle.protocol.specs.Controller.{acted, leaving}
-use Rattle.protocol.specs.declared.controller.Action.{Action}
-use Rattle.protocol.specs.declared.controller.Action.TheVariants as action
+use Rattle.protocol.specs.Controller.{acted, leaving, Action}
 use Rattle.protocol.specs.declared.controller.Controller.{Controller}
 use Rattle.controller.specs.Sent.{sent_by}
 
@@ -53,7 +51,7 @@ sends t l o = by (ltb (length l) (length t)) refl
     by false g = simp (g, le-leb (length t) (length l) (ltb-false _ _ g))
 
 -- no room
-pub unsent : (t l : List ℕ) (o : Controller) → length l < length t → leaving (action.Refused 11) l ≡ acted (go t o) l
+pub unsent : (t l : List ℕ) (o : Controller) → length l < length t → leaving (Err 11) l ≡ acted (go t o) l
 unsent t l o h = simp (lt-ltb _ _ h)
 
 -- data that were stored in their place, and the telegram that was made around them

@@ -2,6 +2,7 @@
 // printer address set. There are three of them, all calls; so they are made here from their header and data, and
 // not by the writer of every service, which would judge them once more.
 ghost use Rattle.std.specs.Prelude.{◌≡◌, true, [], ◌+◌, ◌-◌, ◌≤◌, length, drop};
+ghost use Rattle.octets.specs.Refusals.{told};
 ghost use Rattle.octets.specs.Front.{AtFront};
 ghost use Rattle.fdl.specs.Around.{good_fields};
 ghost use Rattle.fdl.specs.Writing.{telegram_of};
@@ -24,10 +25,9 @@ ghost use Rattle.controller_moves.specs.Next.{move_in, FromOne};
 ghost use Rattle.controller.specs.Sent.{sent_by};
 
 use access::Service;
-use book::Template;
 use controller_moves::Next;
 use fdl::Format;
-use octets::Written;
+use octets::Refusal;
 use protocol::{Action, Controller, Ending, Job, Settings};
 
 // The function code of a counted call, SRD low, with its FCB.
@@ -41,17 +41,15 @@ fn counted_code(fcb: bool) -> u8
 }
 
 // The action when a request was written, or had no room.
-fn sent(controller: Controller, written: Written) -> Action
-    requires { stored_in written ≤ 255 }
-    ensures { result ≡ sent_by controller written }
+fn sent(controller: Controller, written: Result<usize, Refusal>) -> Result<Action, Refusal>
+    requires { stored_in (told written) ≤ 255 }
+    ensures { told result ≡ sent_by controller (told written) }
 {
-    match written {
-        Written::Stored(count) => Action::Send {
-            controller,
-            request: count as u8,
-        },
-        Written::Refused(number) => Action::Refused(number),
-    }
+    let count = written?;
+    Ok(Action::Send {
+        controller,
+        request: count as u8,
+    })
 }
 
 // Writes a call without data, after which the controller's state is this one.
@@ -61,9 +59,9 @@ fn put_empty(
     fc: u8,
     controller: Controller,
     request: &mut [u8],
-) -> Action
+) -> Result<Action, Refusal>
     requires { good_fields Sd2 (header_of service settings.printer settings.controller fc) 0 ≡ true }
-    ensures { leaving result request.new ≡ acted (go (telegram_of Sd2 (header_of service settings.printer settings.controller fc) []) controller) request.old }
+    ensures { leaving (told result) request.new ≡ acted (go (telegram_of Sd2 (header_of service settings.printer settings.controller fc) []) controller) request.old }
 {
     let header = routing::header_of(service, settings.printer, settings.controller, fc);
     let written = fdl_writer::write_around(Format::Sd2, header, 0, request);
@@ -90,14 +88,14 @@ fn put_body(
     body: &[u8],
     controller: Controller,
     request: &mut [u8],
-) -> Action
+) -> Result<Action, Refusal>
     requires { (length body.now ≤ 240) × (good_fields Sd2 (header_of service.Dpv1 settings.printer settings.controller fc) (4 + length body.now) ≡ true) }
-    ensures { leaving result request.new ≡ acted (go (telegram_of Sd2 (header_of service.Dpv1 settings.printer settings.controller fc) (bytes_for (content.Dpv1Call (call.Write 1 index)) body.now)) controller) request.old }
+    ensures { leaving (told result) request.new ≡ acted (go (telegram_of Sd2 (header_of service.Dpv1 settings.printer settings.controller fc) (bytes_for (content.Dpv1Call (call.Write 1 index)) body.now)) controller) request.old }
 {
     let header = routing::header_of(Service::Dpv1, settings.printer, settings.controller, fc);
     let start = framing::user_start(Format::Sd2, header);
     if request.len() < start + 4 + body.len() + 2 {
-        return Action::Refused(11);
+        return Err(Refusal::NoRoom);
     }
     let len = put_data(index, body, &mut request[start..]);
     let written = fdl_writer::write_around(Format::Sd2, header, len, request);
@@ -105,9 +103,10 @@ fn put_body(
 }
 
 // Writes the opening, a call for the diagnosis, which has no data.
-fn put_opening(settings: Settings, request: &mut [u8]) -> Action
+#[tactic(auto, unfolding(service::specs::Writing::telegram_for, content::specs::Writing::bytes_for))]
+fn put_opening(settings: Settings, request: &mut [u8]) -> Result<Action, Refusal>
     requires { Settled settings }
-    ensures { leaving result request.new ≡ acted (go (opening_bytes settings.printer settings.controller) controller.Opening) request.old }
+    ensures { leaving (told result) request.new ≡ acted (go (opening_bytes settings.printer settings.controller) controller.Opening) request.old }
 {
     put_empty(
         settings,
@@ -120,6 +119,7 @@ fn put_opening(settings: Settings, request: &mut [u8]) -> Action
 
 // Writes the write of a template to slot number 1. Behind the last template there is none to write, and the
 // download is done.
+#[tactic(auto, unfolding(service::specs::Writing::telegram_for))]
 fn put_write(
     settings: Settings,
     book: &[u8],
@@ -127,19 +127,18 @@ fn put_write(
     fcb: bool,
     repeats: u8,
     request: &mut [u8],
-) -> Action
+) -> Result<Action, Refusal>
     requires { (Settled settings) × (Accepted book.now) × (1 ≤ template) }
-    ensures { leaving result request.new ≡ acted (ask_for settings template job.Write fcb repeats (drop (template - 1) (templates_of book.now))) request.old }
+    ensures { leaving (told result) request.new ≡ acted (ask_for settings template job.Write fcb repeats (drop (template - 1) (templates_of book.now))) request.old }
 {
-    let found = book_reader::listed(book, template as usize);
-    let Template::Is { slot, start, len } = found else {
-        return Action::End(Ending::Done);
+    let Ok(found) = book_reader::listed(book, template as usize) else {
+        return Ok(Action::End(Ending::Done));
     };
     put_body(
         settings,
         counted_code(fcb),
-        slot,
-        octets::part(book, start, len),
+        found.slot,
+        octets::part(book, found.start, found.len),
         Controller::Asking {
             template,
             job: Job::Write,
@@ -151,6 +150,7 @@ fn put_write(
 }
 
 // Writes a poll for the result of a template's write, which has no data.
+#[tactic(auto, unfolding(service::specs::Writing::telegram_for, content::specs::Writing::bytes_for))]
 fn put_poll(
     settings: Settings,
     template: u8,
@@ -158,9 +158,9 @@ fn put_poll(
     fcb: bool,
     repeats: u8,
     request: &mut [u8],
-) -> Action
+) -> Result<Action, Refusal>
     requires { Settled settings }
-    ensures { leaving result request.new ≡ acted (go (poll_bytes settings.printer settings.controller fcb) (controller.Asking template (job.Poll left) fcb repeats)) request.old }
+    ensures { leaving (told result) request.new ≡ acted (go (poll_bytes settings.printer settings.controller fcb) (controller.Asking template (job.Poll left) fcb repeats)) request.old }
 {
     put_empty(
         settings,
@@ -177,9 +177,14 @@ fn put_poll(
 }
 
 // Writes the request that comes next, or hands on the end.
-pub(crate) fn act(settings: Settings, book: &[u8], next: Next, request: &mut [u8]) -> Action
+pub(crate) fn act(
+    settings: Settings,
+    book: &[u8],
+    next: Next,
+    request: &mut [u8],
+) -> Result<Action, Refusal>
     requires { (Settled settings) × (Accepted book.now) × (FromOne next) }
-    ensures { leaving result request.new ≡ acted (move_in settings (templates_of book.now) next) request.old }
+    ensures { leaving (told result) request.new ≡ acted (move_in settings (templates_of book.now) next) request.old }
 {
     match next {
         Next::Open => put_opening(settings, request),
@@ -194,6 +199,6 @@ pub(crate) fn act(settings: Settings, book: &[u8], next: Next, request: &mut [u8
             fcb,
             repeats,
         } => put_poll(settings, template, left, fcb, repeats, request),
-        Next::End(ending) => Action::End(ending),
+        Next::End(ending) => Ok(Action::End(ending)),
     }
 }

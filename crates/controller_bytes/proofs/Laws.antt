@@ -1,14 +1,13 @@
 -- The bytes of a controller's state are the state of what they were made from: a step takes up exactly what the step before
 -- it left.
-use Rattle.std.specs.Prelude.{◌≡◌, refl}
+use Rattle.std.specs.Prelude.{◌≡◌, refl, Some}
 use Rattle.octets.proofs.Bits.{bit_low, bit_again}
 use Rattle.protocol.specs.declared.controller.Job.TheVariants as job
 use Rattle.protocol.specs.declared.controller.Controller.{Controller}
 use Rattle.protocol.specs.declared.controller.Controller.TheVariants as controller
 use Rattle.controller_bytes.specs.State.{asking_by, controller_in, controller_bytes}
-use Rattle.controller_bytes.specs.declared.state.ControllerFound.TheVariants as controller-found
 
-pub controller_again : (o : Controller) → controller_in (controller_bytes o) ≡ controller-found.Is o
+pub controller_again : (o : Controller) → controller_in (controller_bytes o) ≡ Some o
 unfolding controller_in asking_by
 controller_again controller.Fresh = refl
 controller_again controller.Opening = refl

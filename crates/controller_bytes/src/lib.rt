@@ -6,4 +6,4 @@ mod ending;
 mod state;
 
 pub use ending::{put_ending, put_going_on};
-pub use state::{ControllerFound, controller_in, put_controller, settings_in};
+pub use state::{controller_in, put_controller, settings_in};

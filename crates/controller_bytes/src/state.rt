@@ -5,13 +5,6 @@ ghost use Rattle.controller_bytes.specs.State.{settings_in, asking_by, controlle
 use octets::bit_of;
 use protocol::{Controller, Job, Settings};
 
-// The controller that bytes are the state of, if they are one's.
-#[derive(Drop)]
-pub enum ControllerFound {
-    Is(Controller),
-    Unknown,
-}
-
 pub fn settings_in(settings: &[u8; 4]) -> Settings
     ensures { result ≡ settings_in settings.now }
 {
@@ -24,13 +17,14 @@ pub fn settings_in(settings: &[u8; 4]) -> Settings
 }
 
 // A controller that has sent a write or a poll, unless its FCB is above 1.
-fn asking_by(job: Job, template: u8, fcb: u8, repeats: u8) -> ControllerFound
+#[tactic(auto, unfolding(crate::specs::State::asking_by))]
+fn asking_by(job: Job, template: u8, fcb: u8, repeats: u8) -> Option<Controller>
     ensures { result ≡ asking_by job template fcb repeats }
 {
     if 1 < fcb {
-        return ControllerFound::Unknown;
+        return None;
     }
-    ControllerFound::Is(Controller::Asking {
+    Some(Controller::Asking {
         template,
         job,
         fcb: fcb == 1,
@@ -39,16 +33,16 @@ fn asking_by(job: Job, template: u8, fcb: u8, repeats: u8) -> ControllerFound
 }
 
 // The controller that the bytes are the state of: its kind is known, and FCB, where it has one, not above 1.
-pub fn controller_in(state: &[u8; 5]) -> ControllerFound
+#[tactic(auto, unfolding(crate::specs::State::controller_in))]
+pub fn controller_in(state: &[u8; 5]) -> Option<Controller>
     ensures { result ≡ controller_in state.now }
 {
-    let kind = state[0];
-    match kind {
-        0 => ControllerFound::Is(Controller::Fresh),
-        1 => ControllerFound::Is(Controller::Opening),
+    match state[0] {
+        0 => Some(Controller::Fresh),
+        1 => Some(Controller::Opening),
         2 => asking_by(Job::Write, state[1], state[2], state[3]),
         3 => asking_by(Job::Poll { left: state[4] }, state[1], state[2], state[3]),
-        _ => ControllerFound::Unknown,
+        _ => None,
     }
 }
 

@@ -1,4 +1,5 @@
 -- What a telegram's service is to the controller, by its route alone: no call has the content that a download waits for.
+use Rattle.std.specs.Prelude.{Ok, Err}
 use Prim.Native.Nat.{ℕ}
 use mathlib.Core.Path.{◌≡◌, refl, sym, ◌∙◌}
 use mathlib.Core.List.{List}
@@ -8,30 +9,20 @@ use Rattle.octets.proofs.Choice.{by_pick}
 use Rattle.octets.specs.declared.Mode.{Mode}
 use Rattle.fdl.specs.declared.telegram.Format.{Format}
 use Rattle.fdl.specs.declared.telegram.Header.{Header}
-use Rattle.acyclic.specs.Calls.{read_call_of}
-use Rattle.acyclic.specs.declared.calls.CallReading.{CallReading}
-use Rattle.acyclic.specs.declared.calls.CallReading.TheVariants as call-reading
+use Rattle.acyclic.specs.Calls.{read_call_of, CallReading}
 use Rattle.address_change.specs.Address as address
-use Rattle.address_change.specs.declared.AddressReading.{AddressReading}
-use Rattle.address_change.specs.declared.AddressReading.TheVariants as address-reading
+use Rattle.address_change.specs.Address.{AddressReading}
 use Rattle.configuration.specs.Reading as configuration
-use Rattle.configuration.specs.declared.reading.Reading as configuration-type
-use Rattle.configuration.specs.declared.reading.Reading.TheVariants as configuration-reading
 use Rattle.control.specs.Command as command
-use Rattle.control.specs.declared.command.CommandReading.{CommandReading}
-use Rattle.control.specs.declared.command.CommandReading.TheVariants as command-reading
+use Rattle.control.specs.Command.{CommandReading}
 use Rattle.parameters.specs.Reading as parameters
-use Rattle.parameters.specs.declared.reading.Reading as parameters-type
-use Rattle.parameters.specs.declared.reading.Reading.TheVariants as parameters-reading
 use Rattle.access.specs.declared.table.Service.{Service}
 use Rattle.access.specs.declared.table.Service.TheVariants as service
 use Rattle.access.specs.declared.route.Route.{Route}
 use Rattle.access.specs.declared.route.Route.TheVariants as route
-use Rattle.content.specs.Reading.{plain_of, empty_of, address_in, command_in, parameters_in, configuration_in, dpv1_call_in, call_of, answer_of}
+use Rattle.content.specs.Reading.{plain_of, empty_of, address_in, command_in, parameters_in, configuration_in, dpv1_call_in, call_of, answer_of, UserData}
 use Rattle.content.specs.declared.fields.Content.{Content}
 use Rattle.content.specs.declared.fields.Content.TheVariants as content
-use Rattle.content.specs.declared.reading.UserData.{UserData}
-use Rattle.content.specs.declared.reading.UserData.TheVariants as user-data
 use Rattle.service.specs.Reading.{placed_at, routed_by}
 use Rattle.service.specs.declared.reading.Way.{Way}
 use Rattle.service.specs.declared.reading.Way.TheVariants as way
@@ -50,24 +41,24 @@ unfolding empty_of
 empty_other c n e = by_pick (λ (d : UserData). got_of_data d ≡ other) (ltb 0 n) (λ _. refl) (λ _. e)
 
 address_other : (r : AddressReading) → got_of_data (address_in r) ≡ other
-address_other (address-reading.Change f start len) = refl
-address_other (address-reading.Refused r) = refl
+address_other (Ok found) = refl
+address_other (Err r) = refl
 
 command_other : (r : CommandReading) → got_of_data (command_in r) ≡ other
-command_other (command-reading.Command f start len) = refl
-command_other (command-reading.Refused r) = refl
+command_other (Ok found) = refl
+command_other (Err r) = refl
 
-parameters_other : (r : parameters-type.Reading) → got_of_data (parameters_in r) ≡ other
-parameters_other (parameters-reading.Parameters f start len) = refl
-parameters_other (parameters-reading.Refused r) = refl
+parameters_other : (r : parameters.Reading) → got_of_data (parameters_in r) ≡ other
+parameters_other (Ok found) = refl
+parameters_other (Err r) = refl
 
-pub configuration_other : (c : Content) (r : configuration-type.Reading) (n : ℕ) → got_of c ≡ other → got_of_data (configuration_in c r n) ≡ other
-configuration_other c (configuration-reading.Configuration modules i o) n e = e
-configuration_other c (configuration-reading.Refused r) n e = refl
+pub configuration_other : (c : Content) (r : configuration.Reading) (n : ℕ) → got_of c ≡ other → got_of_data (configuration_in c r n) ≡ other
+configuration_other c (Ok found) n e = e
+configuration_other c (Err r) n e = refl
 
 dpv1_call_other : (r : CallReading) → got_of_data (dpv1_call_in r) ≡ other
-dpv1_call_other (call-reading.Call c start len) = refl
-dpv1_call_other (call-reading.Refused r) = refl
+dpv1_call_other (Ok found) = refl
+dpv1_call_other (Err r) = refl
 
 call_other : (s : Service) (u : List ℕ) (m : Mode) → got_of_data (call_of s u m) ≡ other
 unfolding call_of
@@ -86,8 +77,8 @@ call_other service.ChkCfg u m = configuration_other content.ChkCfg (configuratio
 -- ---- the whole
 
 placed_got : (f : Format) (h : Header) (w : Way) (at : ℕ) (d : UserData) → controller.got_by (placed_at f h w at d) ≡ got_of_data d
-placed_got f h w at (user-data.Is c start len) = refl
-placed_got f h w at (user-data.Refused r) = refl
+placed_got f h w at (Ok found) = refl
+placed_got f h w at (Err r) = refl
 
 pub route_got : (r : Route) (f : Format) (h : Header) (at : ℕ) (u : List ℕ) (m : Mode) → got_of_route r u ≡ controller.got_by (routed_by r f h at u m)
 route_got route.Nowhere f h at u m = refl

@@ -2,7 +2,7 @@
 // it carries a service, and of a service only what a download has a use for. Its class is looked up once.
 #![tactic(auto)]
 
-ghost use Rattle.std.specs.Prelude.{◌≡◌};
+ghost use Rattle.std.specs.Prelude.{◌≡◌, Ok};
 ghost use Rattle.function_code.specs.Code.{class_of};
 ghost use Rattle.fdl.specs.Reading.{read_of};
 ghost use Rattle.fdl.specs.declared.reading.Reading.TheVariants.{Telegram};
@@ -33,13 +33,6 @@ pub enum Reply {
     Other,
 }
 
-// What came of a sending: a reply, or no bytes, or bytes that framing refuses.
-#[derive(Clone, Copy)]
-pub enum Exchange {
-    Answered(Reply),
-    Nothing,
-}
-
 // What a telegram with this header says, whose function code is of this class and whose user data are the len bytes from
 // start: only the printer's own is more than another reply.
 fn heard(
@@ -51,8 +44,8 @@ fn heard(
     start: usize,
     len: usize,
 ) -> Reply
-    requires { (class ≡ class_of header.fc) × (Telegram format header start len ≡ read_of reply.now) }
-    ensures { got_by result ≡ got_from settings reply.now (Telegram format header start len) }
+    requires { (class ≡ class_of header.fc) × (Ok (Telegram format header start len) ≡ read_of reply.now) }
+    ensures { got_by result ≡ got_from settings reply.now (Ok (Telegram format header start len)) }
 {
     if !is_printers(settings, format, header) {
         return Reply::Other;
@@ -61,20 +54,21 @@ fn heard(
 }
 
 // What the bytes that came back are to a controller with these settings.
-pub fn take(settings: Settings, reply: &[u8]) -> Exchange
+pub fn take(settings: Settings, reply: &[u8]) -> Option<Reply>
     ensures { exchanged result ≡ got_in settings reply.now }
 {
-    let reading = fdl_reader::read_classed(reply);
-    match reading {
-        Classed::Confirmation => Exchange::Answered(Reply::Confirmation),
-        Classed::Token { da: _, sa: _ } => Exchange::Answered(Reply::Other),
-        Classed::Telegram {
-            format,
-            header,
-            start,
-            len,
-            class,
-        } => Exchange::Answered(heard(settings, class, reply, format, header, start, len)),
-        Classed::Refused(_) => Exchange::Nothing,
+    match fdl_reader::read_classed(reply) {
+        Ok(Classed::Confirmation) => Some(Reply::Confirmation),
+        Ok(Classed::Token { .. }) => Some(Reply::Other),
+        Ok(
+            Classed::Telegram {
+                format,
+                header,
+                start,
+                len,
+                class,
+            },
+        ) => Some(heard(settings, class, reply, format, header, start, len)),
+        Err(_) => None,
     }
 }

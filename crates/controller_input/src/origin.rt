@@ -8,11 +8,7 @@ use protocol::Settings;
 fn is_sd2(format: Format) -> bool
     ensures { result ≡ is_sd2 format }
 {
-    match format {
-        Format::Sd1 => false,
-        Format::Sd2 => true,
-        Format::Sd3 => false,
-    }
+    matches!(format, Format::Sd2)
 }
 
 // The printer's: SD2 with function code 08, from the printer address set to the controller address set.

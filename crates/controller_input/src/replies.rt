@@ -9,8 +9,7 @@ ghost use Rattle.controller_input.specs.Meaning.{got_by, got_of_data, got_of_rou
 
 use crate::Reply;
 use access::{Answering, Route};
-use acyclic::{Answer, AnswerReading, Function};
-use diagnosis::Reading;
+use acyclic::{Answer, Function};
 use fdl::Header;
 use function_code::Class;
 
@@ -19,10 +18,8 @@ fn negative(function: Function, code1: u8, code2: u8) -> Reply
     ensures { got_by result ≡ controller.negative_of function code1 code2 }
 {
     match function {
-        Function::Read => Reply::Other,
         Function::Write => Reply::Negative { code1, code2 },
-        Function::AlarmAck => Reply::Other,
-        Function::Transport => Reply::Other,
+        Function::Read | Function::AlarmAck | Function::Transport => Reply::Other,
     }
 }
 
@@ -31,7 +28,6 @@ fn reply_of_dpv1(answer: Answer) -> Reply
     ensures { got_by result ≡ controller.got_of_dpv1 answer }
 {
     match answer {
-        Answer::Read { slot: _, index: _ } => Reply::Other,
         Answer::Write {
             slot,
             index,
@@ -41,19 +37,14 @@ fn reply_of_dpv1(answer: Answer) -> Reply
             index,
             length,
         },
-        Answer::AlarmAck {
-            slot: _,
-            alarm: _,
-            specifier: _,
-        } => Reply::Other,
-        Answer::Idle => Reply::Other,
-        Answer::Transport { slot: _, index: _ } => Reply::Other,
         Answer::Negative {
             function,
             decode: _,
             code1,
             code2,
         } => negative(function, code1, code2),
+        Answer::Read { .. } | Answer::AlarmAck { .. } | Answer::Idle | Answer::Transport { .. } =>
+            Reply::Other,
     }
 }
 
@@ -61,14 +52,9 @@ fn reply_of_dpv1(answer: Answer) -> Reply
 fn reply_by_dpv1(user: &[u8]) -> Reply
     ensures { got_by result ≡ got_of_data (dpv1_answer_of user.now) }
 {
-    let reading = acyclic_reader::read_answer(user);
-    match reading {
-        AnswerReading::Answer {
-            answer,
-            start: _,
-            len: _,
-        } => reply_of_dpv1(answer),
-        AnswerReading::Refused(_) => Reply::Other,
+    match acyclic_reader::read_answer(user) {
+        Ok(found) => reply_of_dpv1(found.fields),
+        Err(_) => Reply::Other,
     }
 }
 
@@ -76,41 +62,35 @@ fn reply_by_dpv1(user: &[u8]) -> Reply
 fn reply_by_diagnosis(user: &[u8]) -> Reply
     ensures { got_by result ≡ got_of_data (diagnosis_of user.now) }
 {
-    let reading = diagnosis_reader::read(user);
-    match reading {
-        Reading::Diagnosis {
-            header: _,
-            blocks: _,
-        } => Reply::Diagnosis,
-        Reading::Refused(_) => Reply::Other,
+    if diagnosis_reader::read(user).is_err() {
+        return Reply::Other;
     }
+    Reply::Diagnosis
 }
 
 // A diagnosis, a DPV1 answer, or a service that no request of a download asks for: that is another reply, whether its
 // data can be read or not.
+#[tactic(auto, unfolding(content::specs::Reading::answer_of), using(crate::proofs::Routed::plain_other, crate::proofs::Routed::configuration_other))]
 fn answered(answering: Answering, user: &[u8]) -> Reply
     ensures { got_by result ≡ got_of_data (answer_of answering user.now) }
 {
     match answering {
-        Answering::DataExchange => Reply::Other,
         Answering::Dpv1 => reply_by_dpv1(user),
-        Answering::RdInp => Reply::Other,
-        Answering::RdOutp => Reply::Other,
-        Answering::GetCfg => Reply::Other,
         Answering::SlaveDiag => reply_by_diagnosis(user),
+        Answering::DataExchange | Answering::RdInp | Answering::RdOutp | Answering::GetCfg =>
+            Reply::Other,
     }
 }
 
 // What a telegram with this header and these user data says, whose function code is of this class. A call is another
 // reply, whatever it asks for.
+#[tactic(auto, using(access::proofs::Laws::class_route))]
 pub(crate) fn routed(class: Class, header: Header, user: &[u8]) -> Reply
     requires { class ≡ class_of header.fc }
     ensures { got_by result ≡ got_of_route (route_of header) user.now }
 {
-    let route = routing::route_by(class, header);
-    match route {
-        Route::Nowhere => Reply::Other,
-        Route::Call(_) => Reply::Other,
+    match routing::route_by(class, header) {
         Route::Answer(answering) => answered(answering, user),
+        Route::Nowhere | Route::Call(_) => Reply::Other,
     }
 }

@@ -1,30 +1,20 @@
 -- What follows a request, as the code has it.
 use Prim.Native.Nat.{ℕ, zero, suc, ◌+◌, ◌-◌, ◌≤◌, ◌<◌}
 use mathlib.Core.Path.{◌≡◌, refl, ap, ◌∙◌}
-use mathlib.Core.Bool.{Bool, true, false, not}
-use mathlib.Core.List.{List, [], ◌∷◌}
+use mathlib.Core.Bool.{Bool, true, not}
+use mathlib.Core.List.{List}
 use native.Mathlib.Omega.{arith}
 use lib.Dec.{ltb}
 use lib.ListN.{length, drop}
-use types.Run.{OneOf, miss}
-use denote.Enum.Declared as Declared
-use borrow.Author.Tests.{ltb-true, ltb-false}
+use borrow.Author.Tests.{ltb-true}
 use Rattle.octets.proofs.Choice.{and_left, and_right, never}
 use Rattle.book.specs.Contents.{Entry}
-use Rattle.protocol.specs.Line.{stop}
-use Rattle.protocol.specs.Controller.{Got, nothing, confirmation, diagnosis, positive, negative, other, ask_for, again, poll_again, after_write, after_opening, after_job}
+use Rattle.protocol.specs.Controller.{Got, nothing, confirmation, diagnosis, positive, negative, other, ask_for, again, poll_again, after_job}
 use Rattle.protocol.specs.Words.{is_nothing}
 use Rattle.protocol.specs.declared.controller.Settings.{Settings}
 use Rattle.protocol.specs.declared.controller.Job.{Job}
 use Rattle.protocol.specs.declared.controller.Job.TheVariants as job
-use Rattle.protocol.specs.declared.controller.Ending.TheVariants as ending
 use Rattle.controller_state.specs.Templates.{left_from}
-use Rattle.controller_input.specs.contracts.Reply as reply-type
-use Rattle.controller_input.specs.Meaning.{got_by, exchanged}
-use Rattle.controller_input.specs.declared.Exchange.{Exchange}
-use Rattle.controller_input.specs.declared.Exchange.TheVariants as exchange
-use Rattle.controller_input.specs.declared.Reply.{Reply}
-use Rattle.controller_input.specs.declared.Reply.TheVariants as reply
 use Rattle.controller_moves.specs.Next.{Says, may_repeat}
 use Rattle.controller_moves.specs.declared.moves.Next.TheVariants as next
 
@@ -56,54 +46,17 @@ module _ (c : Settings) (k : ℕ) (fcb : Bool) (ts : List Entry) where
   one_less j zero h = absurd (omega arith)
   one_less j (suc n) h = let e : n ≡ suc n - 1 = omega arith in ap (λ (m : ℕ). ask_for c k j fcb m ts) e
 
-  none_left : (j : Job) (repeats : ℕ) → repeats ≤ 0 → again c k j fcb repeats ts ≡ stop (ending.NoAnswer k)
-  none_left j zero h = refl
-  none_left j (suc n) h = absurd (omega arith)
-
   -- the same request, with one repeat less
   pub repeated : (j : Job) (g : Got) (repeats : ℕ) → may_repeat g repeats ≡ true → ask_for c k j fcb (repeats - 1) ts ≡ after_job c k j fcb repeats ts g
   repeated j g repeats e =
       rw (is_nothing_lem g (and_left (is_nothing g) (ltb 0 repeats) e), no_reply j repeats, one_less j repeats (some_repeats g repeats e))
 
-  -- no repeat was left
-  pub unanswered : (j : Job) (x : Exchange) (repeats : ℕ) → x ≡ exchange.Nothing → may_repeat (exchanged x) repeats ≡ false
-      → stop (ending.NoAnswer k) ≡ after_job c k j fcb repeats ts (exchanged x)
-  unanswered j x repeats n e =
-      let spent : ltb 0 repeats ≡ false = rw n at e in
-      rw (n, no_reply j repeats, none_left j repeats (ltb-false 0 repeats spent))
-
 -- ---- replies
 
--- a reply is something
-pub is_reply : (r : Reply) → is_nothing (got_by r) ≡ false
-is_reply reply.Confirmation = refl
-is_reply reply.Diagnosis = refl
-is_reply (reply.Positive slot index len) = refl
-is_reply (reply.Negative code1 code2) = refl
-is_reply reply.Other = refl
-
-module _ (c : Settings) (k : ℕ) (fcb : Bool) (ts : List Entry) where
-  -- while any poll is left
-  pub one_poll_less : (left : ℕ) → (left ≡ 0 → ⊥) → ask_for c k (job.Poll (left - 1)) (not fcb) c.repeats ts ≡ poll_again c k fcb left ts
-  one_poll_less zero h = absurd (h refl)
-  one_poll_less (suc n) h = let e : suc n - 1 ≡ n = omega arith in ap (λ (m : ℕ). ask_for c k (job.Poll m) (not fcb) c.repeats ts) e
-
-  -- another reply than SC to a write
-  pub strange : (repeats : ℕ) (r : Reply) → OneOf (1 ∷ 2 ∷ 3 ∷ 4 ∷ []) (Declared.tag_of reply-type.the_type r)
-      → stop (ending.Strange k) ≡ after_write c k fcb repeats ts (got_by r)
-  strange repeats reply.Confirmation h = absurd (miss (1 ∷ 2 ∷ 3 ∷ 4 ∷ []) 0 tt h)
-  strange repeats reply.Diagnosis h = refl
-  strange repeats (reply.Positive slot index len) h = refl
-  strange repeats (reply.Negative code1 code2) h = refl
-  strange repeats reply.Other h = refl
-
--- another reply than the diagnosis to the opening
-pub not_opened : (c : Settings) (ts : List Entry) (r : Reply) → OneOf (0 ∷ 2 ∷ 3 ∷ 4 ∷ []) (Declared.tag_of reply-type.the_type r) → stop ending.NoOpening ≡ after_opening c ts (got_by r)
-not_opened c ts reply.Confirmation h = refl
-not_opened c ts reply.Diagnosis h = absurd (miss (0 ∷ 2 ∷ 3 ∷ 4 ∷ []) 1 tt h)
-not_opened c ts (reply.Positive slot index len) h = refl
-not_opened c ts (reply.Negative code1 code2) h = refl
-not_opened c ts reply.Other h = refl
+-- while any poll is left
+pub one_poll_less : (c : Settings) (k : ℕ) (fcb : Bool) (ts : List Entry) (left : ℕ) → (left ≡ 0 → ⊥) → ask_for c k (job.Poll (left - 1)) (not fcb) c.repeats ts ≡ poll_again c k fcb left ts
+one_poll_less c k fcb ts zero h = absurd (h refl)
+one_poll_less c k fcb ts (suc n) h = let e : suc n - 1 ≡ n = omega arith in ap (λ (m : ℕ). ask_for c k (job.Poll m) (not fcb) c.repeats ts) e
 
 -- the template behind k
 pub behind : (c : Settings) (k : ℕ) (fcb : Bool) (repeats : ℕ) (book : List Entry)

@@ -1,5 +1,5 @@
 -- What the code says comes next, in the words of `protocol`.
-use Rattle.std.specs.Prelude.{ℕ, ◌-◌, ◌≤◌, ◌≡◌, Bool, List, ltb, drop}
+use Rattle.std.specs.Prelude.{ℕ, ◌-◌, ◌≤◌, ◌≡◌, Bool, List, ltb, drop, Ok, Err, Result}
 use Rattle.octets.specs.Choice.{◌and◌}
 use Rattle.octets.specs.Front.{fine, fault}
 use Rattle.book.specs.Contents.{Entry, templates_of}
@@ -11,10 +11,12 @@ use Rattle.protocol.specs.declared.controller.Settings.{Settings}
 use Rattle.protocol.specs.declared.controller.Job.TheVariants as job
 use Rattle.protocol.specs.declared.controller.Controller.{Controller}
 use Rattle.protocol.specs.declared.controller.Controller.TheVariants as controller
-use Rattle.controller_moves.specs.declared.Decision.{Decision}
-use Rattle.controller_moves.specs.declared.Decision.TheVariants as decision
 use Rattle.controller_moves.specs.declared.moves.Next.{Next}
 use Rattle.controller_moves.specs.declared.moves.Next.TheVariants as next
+
+-- the next move, or a refusal's number
+abbrev pub Decision : Type 0
+Decision = Result Next ℕ
 
 -- behind the last template there is none to write, and the download is done
 abbrev pub move_in : Settings → (book : List Entry) → Next → Move
@@ -40,5 +42,5 @@ may_repeat g repeats = is_nothing g and ltb 0 repeats
 
 -- a step is refused with the verdict's number, or this comes next
 abbrev pub Decides : Settings → (book : List ℕ) → Controller → (reply : List ℕ) → Decision → Type 0
-Decides c s o reply (decision.Refused number) = verdict_of c s o ≡ fault number
-Decides c s o reply (decision.Next n) = (verdict_of c s o ≡ fine) × Says c (templates_of s) n (move_of c (templates_of s) o reply)
+Decides c s o reply (Err number) = verdict_of c s o ≡ fault number
+Decides c s o reply (Ok n) = (verdict_of c s o ≡ fine) × Says c (templates_of s) n (move_of c (templates_of s) o reply)

@@ -2,33 +2,29 @@
 // byte is touched: what is refused, then the next request or the end.
 #![tactic(auto)]
 
+ghost use Rattle.octets.specs.Refusals.{told};
 ghost use Rattle.controller_moves.specs.Next.{Decides};
 
 use crate::moves::move_by;
-use protocol::{Check, Controller, Settings};
+use octets::Refusal;
+use protocol::{Controller, Settings};
 
 mod moves;
 
 pub use moves::Next;
 
-// A step is refused, or this comes next.
-#[derive(Drop)]
-pub enum Decision {
-    Refused(u8),
-    Next(Next),
-}
-
 // What comes next when `reply` came back for the request that the controller's state says was sent last, no
 // bytes where none did.
-pub fn decide(settings: Settings, book: &[u8], controller: Controller, reply: &[u8]) -> Decision
-    ensures { Decides settings book.now controller reply.now result }
+#[tactic(auto, unfolding(protocol::specs::Controller::move_of))]
+pub fn decide(
+    settings: Settings,
+    book: &[u8],
+    controller: Controller,
+    reply: &[u8],
+) -> Result<Next, Refusal>
+    ensures { Decides settings book.now controller reply.now (told result) }
 {
-    let check = controller_state::judge(settings, book, controller);
-    match check {
-        Check::Refused(number) => Decision::Refused(number),
-        Check::Fine => {
-            let exchange = controller_input::take(settings, reply);
-            Decision::Next(move_by(settings, book, controller, exchange))
-        }
-    }
+    controller_state::judge(settings, book, controller)?;
+    let exchange = controller_input::take(settings, reply);
+    Ok(move_by(settings, book, controller, exchange))
 }

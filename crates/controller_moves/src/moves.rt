@@ -8,14 +8,13 @@ ghost use Rattle.controller_input.specs.Meaning.{got_by, exchanged};
 ghost use Rattle.controller_state.specs.Accepted.{Accepted, Standing};
 ghost use Rattle.controller_moves.specs.Next.{Says, may_repeat};
 
-use book::Template;
-use controller_input::{Exchange, Reply};
+use controller_input::Reply;
 use protocol::{Controller, Ending, Job, Settings};
 
 // The next request, with its FCB and how often it may be sent again: the opening; the write of a
 // template, which ends the download as done where the book has no such template; a poll for a template's
 // result, with so many polls left after it. Or the end.
-#[derive(Drop)]
+#[derive(Clone, Copy)]
 pub enum Next {
     Open,
     Write {
@@ -33,23 +32,17 @@ pub enum Next {
 }
 
 // Whether nothing came and the request may be sent again.
-fn may_repeat(exchange: Exchange, repeats: u8) -> bool
+fn may_repeat(exchange: Option<Reply>, repeats: u8) -> bool
     ensures { result ≡ may_repeat (exchanged exchange) repeats }
 {
-    match exchange {
-        Exchange::Answered(_) => false,
-        Exchange::Nothing => 0 < repeats,
-    }
+    exchange.is_none() && 0 < repeats
 }
 
 // After the opening, which is sent once: without a diagnosis back there is none.
-fn after_opening(settings: Settings, exchange: Exchange) -> Next
+fn after_opening(settings: Settings, exchange: Option<Reply>) -> Next
     ensures { (book : List Entry) → Says settings book result (after_opening settings book (exchanged exchange)) }
 {
-    let Exchange::Answered(reply) = exchange else {
-        return Next::End(Ending::NoOpening);
-    };
-    let Reply::Diagnosis = reply else {
+    let Some(Reply::Diagnosis) = exchange else {
         return Next::End(Ending::NoOpening);
     };
     Next::Write {
@@ -60,7 +53,13 @@ fn after_opening(settings: Settings, exchange: Exchange) -> Next
 }
 
 // After the write of a template: the first poll for its result.
-fn after_write(settings: Settings, template: u8, fcb: bool, repeats: u8, exchange: Exchange) -> Next
+fn after_write(
+    settings: Settings,
+    template: u8,
+    fcb: bool,
+    repeats: u8,
+    exchange: Option<Reply>,
+) -> Next
     requires { (Settled settings) × (1 ≤ template) }
     ensures { (book : List Entry) → template ≤ length book → Says settings book result (after_write settings template fcb repeats (drop (template - 1) book) (exchanged exchange)) }
 {
@@ -73,7 +72,7 @@ fn after_write(settings: Settings, template: u8, fcb: bool, repeats: u8, exchang
             repeats,
         };
     }
-    let Exchange::Answered(reply) = exchange else {
+    let Some(reply) = exchange else {
         // The write failed: it was never answered.
         return Next::End(Ending::NoAnswer { template });
     };
@@ -119,22 +118,16 @@ fn settled(
     requires { (Accepted book.now) × (1 ≤ template) }
     ensures { Says settings (templates_of book.now) result (settledBy settings template fcb slot index length (drop (template - 1) (templates_of book.now))) }
 {
-    let found = book_reader::listed(book, template as usize);
-    let Template::Is {
-        slot: own,
-        start: _,
-        len,
-    } = found
-    else {
+    let Ok(found) = book_reader::listed(book, template as usize) else {
         return Next::End(Ending::Done);
     };
     if slot != 1 {
         return Next::End(Ending::Strange { template });
     }
-    if index != own {
+    if index != found.slot {
         return Next::End(Ending::Strange { template });
     }
-    if length as usize != len {
+    if length as usize != found.len {
         return Next::End(Ending::Strange { template });
     }
     Next::Write {
@@ -158,7 +151,6 @@ fn after_result(
 {
     match reply {
         Reply::Confirmation => poll_again(settings, template, left, fcb),
-        Reply::Diagnosis => Next::End(Ending::Strange { template }),
         Reply::Positive {
             slot,
             index,
@@ -169,7 +161,7 @@ fn after_result(
             code1,
             code2,
         }),
-        Reply::Other => Next::End(Ending::Strange { template }),
+        Reply::Diagnosis | Reply::Other => Next::End(Ending::Strange { template }),
     }
 }
 
@@ -181,7 +173,7 @@ fn after_poll(
     left: u8,
     fcb: bool,
     repeats: u8,
-    exchange: Exchange,
+    exchange: Option<Reply>,
 ) -> Next
     requires { Standing book.now template }
     ensures { Says settings (templates_of book.now) result (after_poll settings template left fcb repeats (drop (template - 1) (templates_of book.now)) (exchanged exchange)) }
@@ -196,7 +188,7 @@ fn after_poll(
             repeats,
         };
     }
-    let Exchange::Answered(reply) = exchange else {
+    let Some(reply) = exchange else {
         // The poll failed: it was never answered.
         return Next::End(Ending::NoAnswer { template });
     };
@@ -211,7 +203,7 @@ fn after_job(
     job: Job,
     fcb: bool,
     repeats: u8,
-    exchange: Exchange,
+    exchange: Option<Reply>,
 ) -> Next
     requires { (Settled settings) × (Standing book.now template) }
     ensures { Says settings (templates_of book.now) result (after_job settings template job fcb repeats (drop (template - 1) (templates_of book.now)) (exchanged exchange)) }
@@ -227,7 +219,7 @@ pub(crate) fn move_by(
     settings: Settings,
     book: &[u8],
     controller: Controller,
-    exchange: Exchange,
+    exchange: Option<Reply>,
 ) -> Next
     requires { verdict_of settings book.now controller ≡ fine }
     ensures { Says settings (templates_of book.now) result (move_by settings (templates_of book.now) controller (exchanged exchange)) }

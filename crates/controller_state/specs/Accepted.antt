@@ -1,5 +1,5 @@
 -- What a step that is not refused has: its settings, its book, and the template of its state.
-use Rattle.std.specs.Prelude.{ℕ, ◌≤◌, ◌≡◌, refl, Bool, List, ltb, length}
+use Rattle.std.specs.Prelude.{ℕ, ◌≤◌, ◌≡◌, refl, Bool, List, ltb, length, Ok, Err}
 use Rattle.std.proofs.Common.{sym, ap, ◌∙◌, ltb-false}
 use Rattle.octets.specs.Choice.{pick}
 use Rattle.octets.specs.Front.{Verdict, fine, fault}
@@ -7,9 +7,7 @@ use Rattle.octets.specs.Fixed.{judged}
 use Rattle.octets.proofs.Fixed.{passed, fault_fine}
 use Rattle.book.specs.Contents.{templates_of}
 use Rattle.book.proofs.Laws.{templates_in_order}
-use Rattle.book.specs.Reading.{read_of}
-use Rattle.book.specs.declared.answers.Reading.{Reading}
-use Rattle.book.specs.declared.answers.Reading.TheVariants as reading
+use Rattle.book.specs.Reading.{read_of, Reading}
 use Rattle.protocol.specs.Controller.{settings_verdict, book_verdict, wrong_fcb, too_many_polls, state_verdict, verdict_of}
 use Rattle.protocol.specs.Verdicts.{Settled}
 use Rattle.protocol.proofs.Lemmas.Accepted.{both_fine, settled}
@@ -20,7 +18,7 @@ use Rattle.protocol.specs.declared.controller.Controller.TheVariants.{Asking}
 
 -- the book is accepted, with as many templates as it says
 abbrev pub Accepted : (book : List ℕ) → Type 0
-Accepted s = read_of s ≡ reading.Book (length (templates_of s))
+Accepted s = read_of s ≡ Ok (length (templates_of s))
 
 -- and template k, counted from 1, is one of them
 pub record Standing (s : List ℕ) (k : ℕ) : Type 0 where
@@ -46,8 +44,8 @@ module _ (c : Settings) (s : List ℕ) (o : Controller) (e : verdict_of c s o �
   book_in = by (read_of s) refl state.0
     where
       by : (r : Reading) → read_of s ≡ r → book_verdict r ≡ fine → Accepted s
-      by (reading.Book n) q f = q ∙ ap reading.Book (sym (templates_in_order s q).1)
-      by (reading.Refused r) q f = absurd (fault_fine f)
+      by (Ok n) q f = q ∙ ap Ok (sym (templates_in_order s q).1)
+      by (Err r) q f = absurd (fault_fine f)
 
 -- the template that was asked for last
 in_book : (c : Settings) (n k : ℕ) (j : Job) (fcb : Bool) (repeats : ℕ) → state_verdict c n (Asking k j fcb repeats) ≡ fine → (1 ≤ k) × (k ≤ n)

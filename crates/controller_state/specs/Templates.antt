@@ -1,14 +1,12 @@
 -- The templates of an accepted book: what one is found as, and those from it on.
-use Rattle.std.specs.Prelude.{ℕ, zero, suc, ◌-◌, ◌≤◌, ◌<◌, ◌≡◌, refl, Bool, true, false, List, [], ◌∷◌, ltb, length, get_or, drop}
+use Rattle.std.specs.Prelude.{ℕ, zero, suc, ◌-◌, ◌≤◌, ◌<◌, ◌≡◌, refl, Bool, true, false, List, [], ◌∷◌, ltb, length, get_or, drop, Ok, Err}
 use Rattle.std.proofs.Common.{sym, ap, ◌∙◌, arith, drop_of_length-le, drop-cons}
 use borrow.Author.Tests.{ltb-true, ltb-false, lt-ltb, le-ltb}
 use Rattle.octets.specs.Part.{part_of}
-use Rattle.octets.specs.declared.Refusal.{Refusal}
 use Rattle.book.specs.Contents.{Entry, InOrder, templates_of}
 use Rattle.book.proofs.Laws.{templates_in_order, template_is, listed_is}
-use Rattle.book.specs.Template.{refused, listed_of, template_of, start_of}
-use Rattle.book.specs.declared.answers.Template.{Template}
-use Rattle.book.specs.declared.answers.Template.TheVariants.{Is, Refused}
+use Rattle.book.specs.Template.{refused, listed_of, template_of, start_of, Template}
+use Rattle.book.specs.declared.answers.Template as template
 use Rattle.controller_state.specs.Accepted.{Accepted}
 
 -- what would stand past the end of a book
@@ -37,7 +35,7 @@ module _ (s : List ℕ) (k : ℕ) (book : Accepted s) (some : 1 ≤ k) where
   abbrev the : Entry
   the = get_or (templates_of s) (k - 1) none
 
-  there : k ≤ length (templates_of s) → template_of s k ≡ Is the.slot (start_of s (k - 1)) (length the.body)
+  there : k ≤ length (templates_of s) → template_of s k ≡ Ok (record { slot = the.slot; start = start_of s (k - 1); len = length the.body })
   there h =
       let i : suc (k - 1) ≡ k = omega arith in
       ap (template_of s) (sym i) ∙ (template_is s book none (k - 1) (omega arith)).is
@@ -51,7 +49,7 @@ module _ (s : List ℕ) (k : ℕ) (book : Accepted s) (some : 1 ≤ k) where
     pub nonempty : 1 ≤ length the.body
     pub short : length the.body ≤ 200
 
-  pub holds : {t : Template} {x start len : ℕ} → t ≡ listed_of s k → t ≡ Is x start len → Holds x start len
+  pub holds : {t : Template} {x start len : ℕ} → t ≡ listed_of s k → t ≡ Ok (record { slot = x; start = start; len = len }) → Holds x start len
   holds {t} {x} {start} {len} e l = by (ltb (length (templates_of s)) k) refl
     where
       by : (b : Bool) → ltb (length (templates_of s)) k ≡ b → Holds x start len
@@ -60,10 +58,13 @@ module _ (s : List ℕ) (k : ℕ) (book : Accepted s) (some : 1 ≤ k) where
           let most : k ≤ length (templates_of s) = ltb-false _ _ g in
           let inside : k - 1 < length (templates_of s) = omega arith in
           let f = template_is s book none (k - 1) inside in
-          let same : Is x start len ≡ Is the.slot (start_of s (k - 1)) (length the.body) = sym l ∙ e ∙ listed_is s book k ∙ there most in
-          let slot : x ≡ the.slot = cc in
-          let begins : start ≡ start_of s (k - 1) = cc in
-          let long : len ≡ length the.body = cc in
+          let found : template.Template = record { slot = x; start = start; len = len } in
+          let own : template.Template = record { slot = the.slot; start = start_of s (k - 1); len = length the.body } in
+          let same : ◌≡◌ {A = Template} (Ok found) (Ok own) = sym l ∙ e ∙ listed_is s book k ∙ there most in
+          let is : found ≡ own = cc in
+          let slot : x ≡ the.slot = ap (λ (t : template.Template). t.slot) is in
+          let begins : start ≡ start_of s (k - 1) = ap (λ (t : template.Template). t.start) is in
+          let long : len ≡ length the.body = ap (λ (t : template.Template). t.len) is in
           let z = sized 0 (templates_of s) (k - 1) (templates_in_order s book).0 inside in
           record {
             most = most;
@@ -75,7 +76,7 @@ module _ (s : List ℕ) (k : ℕ) (book : Accepted s) (some : 1 ≤ k) where
           }
 
   -- where none is found, none is left
-  pub none_left : {t : Template} {r : Refusal} → t ≡ listed_of s k → t ≡ Refused r → drop (k - 1) (templates_of s) ≡ []
+  pub none_left : {t : Template} {r : ℕ} → t ≡ listed_of s k → t ≡ Err r → drop (k - 1) (templates_of s) ≡ []
   none_left e l = by (ltb (length (templates_of s)) k) refl
     where
       by : (b : Bool) → ltb (length (templates_of s)) k ≡ b → drop (k - 1) (templates_of s) ≡ []

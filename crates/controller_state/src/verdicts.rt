@@ -5,36 +5,37 @@ ghost use Rattle.octets.specs.Front.{fault};
 ghost use Rattle.octets.specs.Fixed.{judged};
 ghost use Rattle.book.specs.Contents.{templates_of};
 ghost use Rattle.book.specs.Reading.{read_of};
-ghost use Rattle.protocol.specs.Check.{verdict_in};
+ghost use Rattle.octets.specs.Refusals.{verdict_in};
 ghost use Rattle.protocol.specs.Controller.{settings_verdict, book_verdict, requests_before, wrong_fcb, too_many_polls, state_verdict, verdict_of};
 ghost use Rattle.protocol.specs.declared.controller.Controller.TheVariants.{Asking};
 
-use book::Reading;
-use protocol::{Check, Controller, Job, Settings};
+use octets::Refusal;
+use protocol::{Controller, Job, Settings};
 
 // Whether a download may have these settings, else 12.
-pub fn usable(settings: Settings) -> Check
+#[tactic(auto, unfolding(protocol::specs::Controller::settings_verdict))]
+pub fn usable(settings: Settings) -> Result<(), Refusal>
     ensures { verdict_in result ≡ settings_verdict settings }
 {
     if 126 < settings.printer {
-        return Check::Refused(12);
+        return Err(Refusal::Field);
     }
     if 126 < settings.controller {
-        return Check::Refused(12);
+        return Err(Refusal::Field);
     }
     if settings.printer == settings.controller {
-        return Check::Refused(12);
+        return Err(Refusal::Field);
     }
     if 7 < settings.repeats {
-        return Check::Refused(12);
+        return Err(Refusal::Field);
     }
     if settings.polls < 1 {
-        return Check::Refused(12);
+        return Err(Refusal::Field);
     }
     if 31 < settings.polls {
-        return Check::Refused(12);
+        return Err(Refusal::Field);
     }
-    Check::Fine
+    Ok(())
 }
 
 // Whether more polls are left than a template gets.
@@ -63,10 +64,7 @@ fn requests_before(settings: Settings, job: Job) -> u8
 fn fcb_known(settings: Settings, template: u8) -> bool
     ensures { result ≡ (eqb template 1 or eqb settings.polls 1) }
 {
-    if template == 1 {
-        return true;
-    }
-    settings.polls == 1
+    template == 1 || settings.polls == 1
 }
 
 // Whether FCB is known and is another.
@@ -85,6 +83,7 @@ fn wrong_fcb(settings: Settings, template: u8, job: Job, fcb: bool) -> bool
 }
 
 // Whether a run leads to this job, with a book of so many templates.
+#[tactic(auto, unfolding(protocol::specs::Controller::state_verdict))]
 fn job_usable(
     settings: Settings,
     count: usize,
@@ -92,34 +91,34 @@ fn job_usable(
     job: Job,
     fcb: bool,
     repeats: u8,
-) -> Check
+) -> Result<(), Refusal>
     ensures { verdict_in result ≡ state_verdict settings count (Asking template job fcb repeats) }
 {
     if template < 1 {
-        return Check::Refused(12);
+        return Err(Refusal::Field);
     }
     if count < template as usize {
-        return Check::Refused(12);
+        return Err(Refusal::Field);
     }
     if too_many_polls(settings, job) {
-        return Check::Refused(12);
+        return Err(Refusal::Field);
     }
     if settings.repeats < repeats {
-        return Check::Refused(12);
+        return Err(Refusal::Field);
     }
     if wrong_fcb(settings, template, job, fcb) {
-        return Check::Refused(12);
+        return Err(Refusal::Field);
     }
-    Check::Fine
+    Ok(())
 }
 
 // Whether a run leads to this state, with a book of so many templates.
-fn state_usable(settings: Settings, count: usize, controller: Controller) -> Check
+#[tactic(auto, unfolding(protocol::specs::Controller::state_verdict))]
+fn state_usable(settings: Settings, count: usize, controller: Controller) -> Result<(), Refusal>
     ensures { verdict_in result ≡ state_verdict settings count controller }
 {
     match controller {
-        Controller::Fresh => Check::Fine,
-        Controller::Opening => Check::Fine,
+        Controller::Fresh | Controller::Opening => Ok(()),
         Controller::Asking {
             template,
             job,
@@ -130,23 +129,19 @@ fn state_usable(settings: Settings, count: usize, controller: Controller) -> Che
 }
 
 // The book's own refusal, then the state's.
-fn book_usable(settings: Settings, book: &[u8], controller: Controller) -> Check
+#[tactic(auto, using(book::proofs::Laws::templates_in_order))]
+fn book_usable(settings: Settings, book: &[u8], controller: Controller) -> Result<(), Refusal>
     ensures { verdict_in result ≡ judged fault (book_verdict (read_of book.now)) (state_verdict settings (length (templates_of book.now)) controller) }
 {
-    let reading = book_reader::read(book);
-    match reading {
-        Reading::Refused(refusal) => Check::Refused(refusal.number),
-        Reading::Book { count } => state_usable(settings, count, controller),
-    }
+    let count = book_reader::read(book)?;
+    state_usable(settings, count, controller)
 }
 
 // Whether the controller may take a step: the first refusal decides.
-pub fn judge(settings: Settings, book: &[u8], controller: Controller) -> Check
+#[tactic(auto, unfolding(protocol::specs::Controller::verdict_of))]
+pub fn judge(settings: Settings, book: &[u8], controller: Controller) -> Result<(), Refusal>
     ensures { verdict_in result ≡ verdict_of settings book.now controller }
 {
-    let check = usable(settings);
-    match check {
-        Check::Refused(number) => Check::Refused(number),
-        Check::Fine => book_usable(settings, book, controller),
-    }
+    usable(settings)?;
+    book_usable(settings, book, controller)
 }

@@ -1,18 +1,14 @@
 -- Which bytes are accepted as a diagnosis: exactly those that are one in plain arithmetic.
-use Rattle.std.specs.Prelude.{◌≡◌, refl, true, List, [], ◌∷◌, ◌↔◌, ℕ}
+use Rattle.std.specs.Prelude.{◌≡◌, refl, true, List, [], ◌∷◌, ◌↔◌, ℕ, Ok, Err}
 use Rattle.std.proofs.Common.{ap, subst, arith, zero-add, eq-eqb}
 use Rattle.octets.proofs.Choice.{never}
 use Rattle.diagnosis.specs.Block.{extent, good_code, sized_of, channel_of, found_by, found_at}
-use Rattle.diagnosis.specs.Reading.{good_status1, good_status2, good_master, blocks_in, ext_diag_agrees, judge, header_of, read_of}
+use Rattle.diagnosis.specs.Reading.{good_status1, good_status2, good_master, blocks_in, ext_diag_agrees, judge, header_of, read_of, Reading}
 use Rattle.diagnosis.specs.Contents.{accepted, Walks}
 use Rattle.diagnosis.specs.Bytes.{DiagnosisBytes, IsDiagnosis, BlockBytes}
 use Rattle.diagnosis.proofs.Lemmas.Bytes.{header_bytes_lem, status1_good, status2_good, master_good, ext_diag, agrees_good, walk_blocks, blocks_walk}
 use Rattle.diagnosis.proofs.Laws.{Tiled, tiled_is_read, read_is_tiled}
 use Rattle.diagnosis.specs.declared.block.Kind.TheVariants.{Device, Module, Channel}
-use Rattle.diagnosis.specs.declared.block.Found.TheVariants as found
-use Rattle.diagnosis.specs.declared.reading.Count.TheVariants as count
-use Rattle.diagnosis.specs.declared.reading.Reading.{Reading}
-use Rattle.diagnosis.specs.declared.reading.Reading.TheVariants.{Diagnosis, Refused}
 
 module _ (s : List ℕ) where
   tiled_bytes : (n : ℕ) → Tiled s n → DiagnosisBytes s n
@@ -36,17 +32,17 @@ module _ (s : List ℕ) where
         status2 = status2_good s d.header;
         status3 = eq-eqb _ _ d.header.status3;
         master = master_good d.header.master;
-        walk = subst (λ (i : ℕ). Walks s 6 0 (count.Blocks i)) (zero-add n) (blocks_walk d.blocks 0 (omega arith));
+        walk = subst (λ (i : ℕ). Walks s 6 0 (Ok i)) (zero-add n) (blocks_walk d.blocks 0 (omega arith));
         agrees = agrees_good d.agrees;
       }
 
   -- Read as a diagnosis of n blocks exactly when the header's bits and bytes are in range, n blocks tile the rest, and Ext_Diag agrees.
-  pub diagnosis_read : (n : ℕ) → read_of s ≡ Diagnosis (header_of s) n ↔ DiagnosisBytes s n
+  pub diagnosis_read : (n : ℕ) → read_of s ≡ Ok (record { header = header_of s; blocks = n }) ↔ DiagnosisBytes s n
   diagnosis_read n = (λ e. tiled_bytes n (read_is_tiled s e), λ d. tiled_is_read s n (bytes_tiled n d))
 
   by_reading : (r : Reading) → read_of s ≡ r → accepted r ≡ true → IsDiagnosis s
-  by_reading (Diagnosis h n) e a = record { count = n; bytes = tiled_bytes n (read_is_tiled s e) }
-  by_reading (Refused r) e a = absurd (never a)
+  by_reading (Ok found) e a = record { count = found.blocks; bytes = tiled_bytes found.blocks (read_is_tiled s e) }
+  by_reading (Err r) e a = absurd (never a)
 
   -- Accepted exactly when it is one with whatever blocks.
   pub diagnosis_accepted : accepted (read_of s) ≡ true ↔ IsDiagnosis s
@@ -54,9 +50,9 @@ module _ (s : List ℕ) where
 
 -- A device, a module and a channel block are found as what they are.
 pub kinds_computed :
-    (found_at (2 ∷ 9 ∷ []) 0 ≡ found.Is (extent Device 2))
-    × (found_at (66 ∷ 9 ∷ []) 0 ≡ found.Is (extent Module 2))
-    × (found_at (130 ∷ 67 ∷ 38 ∷ []) 0 ≡ found.Is (extent Channel 3))
+    (found_at (2 ∷ 9 ∷ []) 0 ≡ Ok (extent Device 2))
+    × (found_at (66 ∷ 9 ∷ []) 0 ≡ Ok (extent Module 2))
+    × (found_at (130 ∷ 67 ∷ 38 ∷ []) 0 ≡ Ok (extent Channel 3))
 unfolding found_by sized_of channel_of good_code
 kinds_computed = (refl, refl, refl)
 

@@ -1,6 +1,6 @@
 -- The customer's second demand for a diagnosis and for each of its blocks, that a block's kind is its header's, and that reading and
 -- the walk agree.
-use Rattle.std.specs.Prelude.{◌≡◌, refl, true, List, ◌++◌, ℕ, ◌+◌, ◌-◌, ◌/◌, ◌≤◌, ◌<◌, get_or, take, drop}
+use Rattle.std.specs.Prelude.{◌≡◌, refl, true, List, ◌++◌, ℕ, ◌+◌, ◌-◌, ◌/◌, ◌≤◌, ◌<◌, get_or, take, drop, Ok, Err}
 use Rattle.std.proofs.Common.{ap, ◌∙◌, zero-add, length-drop, take-append-drop, le-ltb}
 use Rattle.std.proofs.Math.Path.{subst}
 use native.Mathlib.Omega.{arith}
@@ -11,8 +11,8 @@ use Rattle.octets.proofs.Number.{number_bytes}
 use Rattle.octets.specs.Front.{fine}
 use Rattle.octets.proofs.Fixed.{fault_fine}
 use Rattle.diagnosis.specs.Block.{kind_number, found_at}
-use Rattle.diagnosis.specs.Walk.{position, block_of, next_of}
-use Rattle.diagnosis.specs.Reading.{good_status1, good_status2, good_status3, good_master, ext_diag_agrees, count_of, judge, header_of, answered, read_of}
+use Rattle.diagnosis.specs.Walk.{position, block_of, next_of, Step}
+use Rattle.diagnosis.specs.Reading.{good_status1, good_status2, good_status3, good_master, ext_diag_agrees, count_of, judge, header_of, answered, read_of, Count, Reading}
 use Rattle.diagnosis.specs.Writing.{diagnosis_bytes, verdict_by, verdict_of}
 use Rattle.diagnosis.specs.Contents.{Contents, diagnosis, contents_in, contents_of, bytes_for, verdict_for, accepted, Item, item_in, item_bytes, item_verdict, block_for, joined, Writable, Walks}
 use Rattle.diagnosis.proofs.Lemmas.Found as kind
@@ -25,15 +25,9 @@ use Rattle.diagnosis.proofs.Lemmas.Written.{carries, stepped, after_blocks}
 use Rattle.diagnosis.proofs.Lemmas.Again.{sized_taken, sized_same, channel_taken, channel_same}
 use Rattle.diagnosis.specs.declared.block.Kind.TheVariants.{Device, Module}
 use Rattle.diagnosis.specs.declared.block.Extent.{Extent}
-use Rattle.diagnosis.specs.declared.block.Found.TheVariants.{Is}
 use Rattle.diagnosis.specs.declared.reading.Header.{Header}
-use Rattle.diagnosis.specs.declared.reading.Count.{Count}
-use Rattle.diagnosis.specs.declared.reading.Count.TheVariants as count
-use Rattle.diagnosis.specs.declared.reading.Reading.{Reading}
-use Rattle.diagnosis.specs.declared.reading.Reading.TheVariants.{Diagnosis, Refused}
 use Rattle.diagnosis.specs.declared.walk.Block as TheBlock
 use Rattle.diagnosis.specs.declared.walk.Position.{Position}
-use Rattle.diagnosis.specs.declared.walk.Step.{Step}
 use Rattle.diagnosis.specs.declared.walk.Step.TheVariants as step
 
 -- ---- a whole diagnosis
@@ -51,8 +45,8 @@ module _ (h : Header) (blocks : List ℕ) (i : h.ident < 65536) where
       simp (le-ltb _ _ long) (ap (λ (x : Header). answered x (judge x blocks)) header_back)
 
   as_judged : (c : Count) → verdict_by c ≡ fine → contents_in (diagnosis_bytes h blocks) (answered h c) ≡ diagnosis h blocks
-  as_judged (count.Blocks n) v = refl
-  as_judged (count.Refused r) v = absurd (fault_fine v)
+  as_judged (Ok n) v = refl
+  as_judged (Err r) v = absurd (fault_fine v)
 
   -- (a) What is written reads back as the same header and the same blocks. (Every ident number of 16 bits is below 65536.)
   pub reads_back : verdict_of h blocks ≡ fine → contents_of (diagnosis_bytes h blocks) ≡ diagnosis h blocks
@@ -79,7 +73,7 @@ writes_back s b a = again s b (reads s) a
 -- (a) What a block's writer stores, behind a header and other blocks and before any bytes, is read by the walk as that block, with
 -- the same fields and the same part; the next position is right behind it.
 pub record Back (s : List ℕ) (at : ℕ) (x : Item) : Type 0 where
-  pub step : next_of s at ≡ step.Block (block_for at x) (position (at + length (item_bytes x)))
+  pub step : next_of s at ≡ Ok (step.Block (block_for at x) (position (at + length (item_bytes x))))
   pub carried : item_in s (block_for at x) ≡ x
 
 pub block_reads_back : (before after : List ℕ) → 6 ≤ length before → (x : Item) → item_verdict x ≡ fine
@@ -95,7 +89,7 @@ pub record BlockAgain (s : List ℕ) (at : ℕ) (b : TheBlock.Block) (p : Positi
   pub inside : p.at ≤ length s
 
 module _ (s : List ℕ) (b : Bytes s) (at : ℕ) where
-  by_kind : {e : Extent} → Within (length s - at) e.len → FindsAt s at (Is e) → BlockAgain s at (block_of s at e) (position (at + e.len))
+  by_kind : {e : Extent} → Within (length s - at) e.len → FindsAt s at (Ok e) → BlockAgain s at (block_of s at e) (position (at + e.len))
   by_kind w (kind.device z g) =
       record { taken = sized_taken s at _ w; same = sized_same s at _ w Device (omega arith); onward = omega arith; inside = omega arith }
   by_kind w (kind.modules z g) =
@@ -104,9 +98,9 @@ module _ (s : List ℕ) (b : Bytes s) (at : ℕ) where
       record { taken = channel_taken s b at g; same = channel_same s b at g z; onward = omega arith; inside = omega (arith, g.whole) }
 
   AgainAt : Step → Type 0
-  AgainAt (step.Block c p) = BlockAgain s at c p
-  AgainAt step.End = Unit
-  AgainAt (step.Refused r) = Unit
+  AgainAt (Ok (step.Block c p)) = BlockAgain s at c p
+  AgainAt (Ok step.End) = Unit
+  AgainAt (Err r) = Unit
 
   by_step : {x : Step} → Steps s at x → AgainAt x
   unfolding AgainAt
@@ -115,19 +109,19 @@ module _ (s : List ℕ) (b : Bytes s) (at : ℕ) where
   by_step (step_case.last e) = tt
   by_step (step_case.outside f) = tt
 
-  pub block_writes_back : {c : TheBlock.Block} {p : Position} → next_of s at ≡ step.Block c p → BlockAgain s at c p
+  pub block_writes_back : {c : TheBlock.Block} {p : Position} → next_of s at ≡ Ok (step.Block c p) → BlockAgain s at c p
   unfolding AgainAt
   block_writes_back e = subst AgainAt e (by_step (steps s at))
 
 -- A block is found as the kind that its header has.
-pub kind_in_header : (s : List ℕ) (at : ℕ) {e : Extent} → found_at s at ≡ Is e → get_or s at 0 / 64 ≡ kind_number e.kind
+pub kind_in_header : (s : List ℕ) (at : ℕ) {e : Extent} → found_at s at ≡ Ok e → get_or s at 0 / 64 ≡ kind_number e.kind
 kind_in_header s at p = kind_of_lem (found_at_lem s at p)
 
 -- ---- reading and the walk
 
 -- Blocks that were written one after the other are so many blocks: with an Ext_Diag that agrees, writing takes them.
-pub written_blocks : (xs : List Item) → Writable xs → count_of (joined xs) ≡ count.Blocks (length xs)
-written_blocks xs w = after_blocks 0 w ∙ ap count.Blocks (zero-add (length xs))
+pub written_blocks : (xs : List Item) → Writable xs → count_of (joined xs) ≡ Ok (length xs)
+written_blocks xs w = after_blocks 0 w ∙ ap Ok (zero-add (length xs))
 
 -- The walk from the first position comes to the number of blocks, or to the refusal, that reading counts, and to nothing else.
 pub walk_counts : (s : List ℕ) → 6 ≤ length s → Walks s 6 0 (count_of (drop 6 s))
@@ -144,10 +138,10 @@ pub record Tiled (s : List ℕ) (n : ℕ) : Type 0 where
   pub status2 : good_status2 (get_or s 1 0) ≡ true
   pub status3 : good_status3 (get_or s 2 0) ≡ true
   pub master : good_master (get_or s 3 0) ≡ true
-  pub walk : Walks s 6 0 (count.Blocks n)
+  pub walk : Walks s 6 0 (Ok n)
   pub agrees : ext_diag_agrees (get_or s 0 0) n ≡ true
 
-pub tiled_is_read : (s : List ℕ) (n : ℕ) → Tiled s n → read_of s ≡ Diagnosis (header_of s) n
+pub tiled_is_read : (s : List ℕ) (n : ℕ) → Tiled s n → read_of s ≡ Ok (record { header = header_of s; blocks = n })
 unfolding read_of
 tiled_is_read s n t =
     let g : Good (header_of s) (drop 6 s) n =
@@ -163,8 +157,8 @@ tiled_is_read s n t =
     simp (le-ltb _ _ t.long) (ap (answered (header_of s)) (judged (header_of s) (drop 6 s) g))
 
 TiledBy : List ℕ → Reading → Type 0
-TiledBy s (Diagnosis h n) = Tiled s n
-TiledBy s (Refused r) = Unit
+TiledBy s (Ok found) = Tiled s found.blocks
+TiledBy s (Err r) = Unit
 
 by_reads : (s : List ℕ) {r : Reading} → Reads s r → TiledBy s r
 unfolding TiledBy
@@ -181,6 +175,6 @@ by_reads s (read l g) =
     }
 by_reads s unread = tt
 
-pub read_is_tiled : (s : List ℕ) {h : Header} {n : ℕ} → read_of s ≡ Diagnosis h n → Tiled s n
+pub read_is_tiled : (s : List ℕ) {h : Header} {n : ℕ} → read_of s ≡ Ok (record { header = h; blocks = n }) → Tiled s n
 unfolding TiledBy
 read_is_tiled s e = subst (TiledBy s) e (by_reads s (reads s))

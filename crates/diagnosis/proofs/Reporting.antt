@@ -1,14 +1,12 @@
 -- What the answers on a module block mean (document 01, "Diagnosis"): the lowest module that reports, and the number of set bits.
-use Rattle.std.specs.Prelude.{◌≡◌, refl, true, false, List, [], ◌∷◌, ◌↔◌, ℕ, ◌+◌, ◌*◌, ◌/◌, ◌%◌, ◌^◌, ◌<◌, length, get_or}
+use Rattle.std.specs.Prelude.{◌≡◌, refl, true, false, List, [], ◌∷◌, ◌↔◌, ℕ, ◌+◌, ◌*◌, ◌/◌, ◌%◌, ◌^◌, ◌<◌, length, get_or, Some, None}
 use Rattle.std.proofs.Common.{ap, subst, arith, lt_of_not-le}
 use Rattle.std.proofs.Math.Decide.{dec_le}
 use Rattle.std.proofs.Math.Nat.{zero-div}
 use borrow.Author.Tests.{eqb-true, eqb-false, eq-eqb}
 use Rattle.octets.proofs.Elements.{get_d_past}
-use Rattle.diagnosis.specs.Map.{reports, count_from, lowest_from, set_of, lowest_of}
+use Rattle.diagnosis.specs.Map.{reports, count_from, lowest_from, set_of, lowest_of, Lowest}
 use Rattle.diagnosis.proofs.Lemmas.Map.{Finds, found, none, finds, count_more}
-use Rattle.diagnosis.specs.declared.map.Lowest.{Lowest}
-use Rattle.diagnosis.specs.declared.map.Lowest.TheVariants.{Module, Nothing}
 
 -- module k reports: bit k % 8 of byte k / 8 is set
 abbrev pub Reports : List ℕ → (k : ℕ) → Type 0
@@ -38,8 +36,8 @@ module _ (map : List ℕ) where
       ]
 
   abbrev Means : Lowest → Type 0
-  Means (Module k) = Reports map k × ((j : ℕ) → j < k → Reports map j → ⊥)
-  Means Nothing = (j : ℕ) → Reports map j → ⊥
+  Means (Some k) = Reports map k × ((j : ℕ) → j < k → Reports map j → ⊥)
+  Means None = (j : ℕ) → Reports map j → ⊥
 
   means : {r : Lowest} → Finds (reports map) 0 (8 * length map) r → Means r
   means (found {m} t l) = (yes_reports m t, λ j h. no_reports j (l j (omega arith) h))
@@ -50,26 +48,26 @@ module _ (map : List ℕ) where
 
   -- one meaning, one answer
   only : (r q : Lowest) → Means r → Means q → r ≡ q
-  only (Module k) (Module j) (a, b) (c, d) =
+  only (Some k) (Some j) (a, b) (c, d) =
       elim (dec_le k j) [
         | yes l ↦
             elim (dec_le j k) [
-              | yes m ↦ ap Module (omega arith)
+              | yes m ↦ ap Some (omega arith)
               | no m ↦ absurd (d k (lt_of_not-le m) a)
             ]
         | no l ↦ absurd (b j (lt_of_not-le l) c)
       ]
-  only (Module k) Nothing (a, b) n = absurd (n k a)
-  only Nothing (Module j) n (c, d) = absurd (n j c)
-  only Nothing Nothing m n = refl
+  only (Some k) None (a, b) n = absurd (n k a)
+  only None (Some j) n (c, d) = absurd (n j c)
+  only None None m n = refl
 
   -- The lowest module is k exactly when k reports and none below it does.
-  pub lowest_reports : (k : ℕ) → lowest_of map ≡ Module k ↔ Reports map k × ((j : ℕ) → j < k → Reports map j → ⊥)
-  lowest_reports k = (λ e. subst Means e lowest_means, λ m. only (lowest_of map) (Module k) lowest_means m)
+  pub lowest_reports : (k : ℕ) → lowest_of map ≡ Some k ↔ Reports map k × ((j : ℕ) → j < k → Reports map j → ⊥)
+  lowest_reports k = (λ e. subst Means e lowest_means, λ m. only (lowest_of map) (Some k) lowest_means m)
 
   -- There is none exactly when no module reports.
-  pub none_reports : lowest_of map ≡ Nothing ↔ ((j : ℕ) → Reports map j → ⊥)
-  none_reports = (λ e. subst Means e lowest_means, λ m. only (lowest_of map) Nothing lowest_means m)
+  pub none_reports : lowest_of map ≡ None ↔ ((j : ℕ) → Reports map j → ⊥)
+  none_reports = (λ e. subst Means e lowest_means, λ m. only (lowest_of map) None lowest_means m)
 
 -- The number of modules that report is the number of set bits, byte by byte.
 pub set_of_none : set_of [] ≡ 0
@@ -81,6 +79,6 @@ pub set_of_more : (x : ℕ) (map : List ℕ)
 set_of_more = count_more
 
 -- Modules 11 and 13, in a map of three bytes.
-pub maps_computed : (lowest_of (0 ∷ 40 ∷ 0 ∷ []) ≡ Module 11) × (set_of (0 ∷ 40 ∷ 0 ∷ []) ≡ 2) × (lowest_of (0 ∷ []) ≡ Nothing)
+pub maps_computed : (lowest_of (0 ∷ 40 ∷ 0 ∷ []) ≡ Some 11) × (set_of (0 ∷ 40 ∷ 0 ∷ []) ≡ 2) × (lowest_of (0 ∷ []) ≡ None)
 unfolding reports count_from lowest_from
 maps_computed = (refl, refl, refl)

@@ -1,12 +1,13 @@
 -- Where a block begins (document 01, "Diagnosis"): which kind of block, and how many bytes, or the first fault.
-use Rattle.std.specs.Prelude.{ℕ, ◌+◌, ◌-◌, ◌/◌, ◌%◌, Bool, not, List, length, get_or, eqb, ltb, leb}
+use Rattle.std.specs.Prelude.{ℕ, ◌+◌, ◌-◌, ◌/◌, ◌%◌, Bool, not, List, length, get_or, eqb, ltb, leb, Ok, Err, Result}
 use Rattle.octets.specs.Choice.{pick, ◌and◌, ◌or◌}
-use Rattle.octets.specs.declared.Refusal.{Refusal}
 use Rattle.diagnosis.specs.declared.block.Kind.{Kind}
 use Rattle.diagnosis.specs.declared.block.Kind.TheVariants.{Device, Module, Channel}
 use Rattle.diagnosis.specs.declared.block.Extent.{Extent}
-use Rattle.diagnosis.specs.declared.block.Found.{Found}
-use Rattle.diagnosis.specs.declared.block.Found.TheVariants.{Is, Refused}
+
+-- which kind of block stands there and how long it is, or a refusal's number
+abbrev pub Found : Type 0
+Found = Result Extent ℕ
 
 -- bits 7-6 of a block's header; 3 is reserved
 abbrev pub kind_number : Kind → ℕ
@@ -22,11 +23,8 @@ direction_place = 64
 abbrev pub type_place : ℕ
 type_place = 32
 
-abbrev pub refusal : ℕ → Refusal
-refusal k = record { number = k }
-
 abbrev pub refused : ℕ → Found
-refused k = Refused (refusal k)
+refused k = Err k
 
 -- a block of so many bytes, its header counted
 abbrev pub extent : Kind → (len : ℕ) → Extent
@@ -40,7 +38,7 @@ good_code kind error = leb 1 kind and leb kind 6 and leb 1 error and (leb error 
 unfoldable pub sized_of : Kind → (head left : ℕ) → Found
 sized_of kind head left =
     pick (ltb (head % 64) 2) (refused 23)
-    (pick (ltb left (head % 64)) (refused 24) (Is (extent kind (head % 64))))
+    (pick (ltb left (head % 64)) (refused 24) (Ok (extent kind (head % 64))))
 
 -- the rule of a device block
 abbrev pub device_of : (head left : ℕ) → Found
@@ -51,7 +49,7 @@ unfoldable pub channel_of : (second third left : ℕ) → Found
 channel_of second third left =
     pick (ltb left 3) (refused 24)
     (pick (eqb (second / direction_place) 0) (refused 25)
-    (pick (not (good_code (third / type_place) (third % type_place))) (refused 25) (Is (extent Channel 3))))
+    (pick (not (good_code (third / type_place) (third % type_place))) (refused 25) (Ok (extent Channel 3))))
 
 -- by the kind in bits 7-6 of the header
 unfoldable pub found_by : (head second third left : ℕ) → Found

@@ -1,18 +1,13 @@
 -- What a diagnosis and a block carry, whichever way they go: the common ground on which the laws of reading and writing are
 -- stated.
-use Rattle.std.specs.Prelude.{ℕ, ◌+◌, ◌≡◌, Bool, true, false, List, [], ◌∷◌, ◌++◌, length, drop}
+use Rattle.std.specs.Prelude.{ℕ, ◌+◌, ◌≡◌, Bool, true, false, List, [], ◌∷◌, ◌++◌, length, drop, Ok, Err}
 use Rattle.octets.specs.Part.{part_of}
 use Rattle.octets.specs.Front.{Verdict, fine, fault}
-use Rattle.octets.specs.declared.Refusal.{Refusal}
 use Rattle.diagnosis.specs.Map.{set_of, lowest_of}
-use Rattle.diagnosis.specs.Reading.{read_of}
+use Rattle.diagnosis.specs.Reading.{read_of, Count, Reading}
 use Rattle.diagnosis.specs.Walk.{next_of}
 use Rattle.diagnosis.specs.Writing.{diagnosis_bytes, verdict_of, device_bytes, device_verdict, module_bytes, module_verdict, channel_bytes, channel_verdict}
 use Rattle.diagnosis.specs.declared.reading.Header.{Header}
-use Rattle.diagnosis.specs.declared.reading.Count.{Count}
-use Rattle.diagnosis.specs.declared.reading.Count.TheVariants as count
-use Rattle.diagnosis.specs.declared.reading.Reading.{Reading}
-use Rattle.diagnosis.specs.declared.reading.Reading.TheVariants.{Diagnosis, Refused}
 use Rattle.diagnosis.specs.declared.walk.Channel as the-channel
 use Rattle.diagnosis.specs.declared.walk.Block as TheBlock
 use Rattle.diagnosis.specs.declared.walk.Block.TheVariants as block
@@ -27,8 +22,8 @@ pub data Contents : Type 0 where
 
 -- a reading's header, and the bytes of its blocks as the part of the bytes from 6 on
 abbrev pub contents_in : List ℕ → Reading → Contents
-contents_in s (Diagnosis h n) = diagnosis h (drop 6 s)
-contents_in s (Refused r) = nothing
+contents_in s (Ok found) = diagnosis found.header (drop 6 s)
+contents_in s (Err r) = nothing
 
 abbrev pub contents_of : List ℕ → Contents
 contents_of s = contents_in s (read_of s)
@@ -43,8 +38,8 @@ verdict_for nothing = fault 12
 verdict_for (diagnosis h blocks) = verdict_of h blocks
 
 abbrev pub accepted : Reading → Bool
-accepted (Diagnosis h n) = true
-accepted (Refused r) = false
+accepted (Ok found) = true
+accepted (Err r) = false
 
 -- ---- one block
 
@@ -89,6 +84,6 @@ pub data Writable : List Item → Type 0 where
 
 -- from `at`, with n blocks passed, one step after the other comes to the end with so many blocks, or to this refusal
 pub data Walks (s : List ℕ) : (at n : ℕ) → Count → Type 0 where
-  end : {at n : ℕ} → next_of s at ≡ step.End → Walks s at n (count.Blocks n)
-  bad : {at n : ℕ} {r : Refusal} → next_of s at ≡ step.Refused r → Walks s at n (count.Refused r)
-  more : {at n : ℕ} {c : Count} {b : TheBlock.Block} {p : Position} → next_of s at ≡ step.Block b p → Walks s p.at (n + 1) c → Walks s at n c
+  end : {at n : ℕ} → next_of s at ≡ Ok step.End → Walks s at n (Ok n)
+  bad : {at n : ℕ} {r : ℕ} → next_of s at ≡ Err r → Walks s at n (Err r)
+  more : {at n : ℕ} {c : Count} {b : TheBlock.Block} {p : Position} → next_of s at ≡ Ok (step.Block b p) → Walks s p.at (n + 1) c → Walks s at n c

@@ -1,18 +1,20 @@
 -- Reading a diagnosis (document 01, "Diagnosis"): each byte that can be refused has a line of its own, in the order in which
 -- the faults decide.
-use Rattle.std.specs.Prelude.{ℕ, zero, suc, ◌+◌, ◌-◌, ◌/◌, ◌%◌, Bool, not, List, [], ◌∷◌, length, get_or, drop, eqb, ltb, leb}
+use Rattle.std.specs.Prelude.{ℕ, zero, suc, ◌+◌, ◌-◌, ◌/◌, ◌%◌, Bool, not, List, [], ◌∷◌, length, get_or, drop, eqb, ltb, leb, Ok, Err, Result}
 use Rattle.octets.specs.Choice.{pick, ◌and◌, ◌or◌}
 use Rattle.octets.specs.Number.{number_of}
-use Rattle.octets.specs.declared.Refusal.{Refusal}
-use Rattle.diagnosis.specs.Block.{refusal, found_at}
+use Rattle.diagnosis.specs.Block.{found_at, Found}
 use Rattle.diagnosis.specs.declared.block.Extent.{Extent}
-use Rattle.diagnosis.specs.declared.block.Found.{Found}
-use Rattle.diagnosis.specs.declared.block.Found.TheVariants as found
 use Rattle.diagnosis.specs.declared.reading.Header.{Header}
-use Rattle.diagnosis.specs.declared.reading.Count.{Count}
-use Rattle.diagnosis.specs.declared.reading.Count.TheVariants as count
-use Rattle.diagnosis.specs.declared.reading.Reading.{Reading}
-use Rattle.diagnosis.specs.declared.reading.Reading.TheVariants.{Diagnosis, Refused}
+use Rattle.diagnosis.specs.declared.reading.Reading as whole
+
+-- how many blocks there are, or a refusal's number
+abbrev pub Count : Type 0
+Count = Result ℕ ℕ
+
+-- what reading answers: the header and how many blocks there are, or a refusal's number
+abbrev pub Reading : Type 0
+Reading = Result whole.Reading ℕ
 
 -- ---- the header
 
@@ -37,13 +39,13 @@ good_master b = leb b 125 or eqb b 255
 -- blocks that end where the bytes end, or, where they do not, up to the first fault
 pub data Blocks : Type 0 where
   end : Blocks
-  bad : Refusal → Blocks
+  bad : ℕ → Blocks
   more : Extent → Blocks → Blocks
 
 -- a block, and then what is made of the bytes after its first, of which so many are still its own
 abbrev pub onward : Found → (ℕ → Blocks) → Blocks
-onward (found.Is e) rest = more e (rest (e.len - 1))
-onward (found.Refused r) rest = bad r
+onward (Ok e) rest = more e (rest (e.len - 1))
+onward (Err r) rest = bad r
 
 -- the blocks of bytes of which the first `skip` are passed over
 unfoldable pub blocks_in : List ℕ → (skip : ℕ) → Blocks
@@ -53,23 +55,23 @@ blocks_in (x ∷ xs) (suc skip) = blocks_in xs skip
 
 -- how many blocks there are, with n before them
 abbrev pub counted : (n : ℕ) → Blocks → Count
-counted n end = count.Blocks n
-counted n (bad r) = count.Refused r
+counted n end = Ok n
+counted n (bad r) = Err r
 counted n (more e blocks) = counted (n + 1) blocks
 
 abbrev pub count_of : List ℕ → Count
 count_of s = counted 0 (blocks_in s 0)
 
 abbrev pub refused : ℕ → Count
-refused k = count.Refused (refusal k)
+refused k = Err k
 
 -- the agreement of Ext_Diag: bit 3 of status 1 is set exactly when a block exists
 unfoldable pub ext_diag_agrees : (status1 blocks : ℕ) → Bool
 ext_diag_agrees status1 blocks = pick (eqb blocks 0) (eqb (status1 / 8 % 2) 0) (eqb (status1 / 8 % 2) 1)
 
 abbrev pub agreed : (status1 : ℕ) → Count → Count
-agreed status1 (count.Refused r) = count.Refused r
-agreed status1 (count.Blocks n) = pick (ext_diag_agrees status1 n) (count.Blocks n) (refused 22)
+agreed status1 (Err r) = Err r
+agreed status1 (Ok n) = pick (ext_diag_agrees status1 n) (Ok n) (refused 22)
 
 -- ---- the whole
 
@@ -95,8 +97,8 @@ header_of s =
     }
 
 abbrev pub answered : Header → Count → Reading
-answered h (count.Refused r) = Refused r
-answered h (count.Blocks n) = Diagnosis h n
+answered h (Err r) = Err r
+answered h (Ok n) = Ok (record { header = h; blocks = n })
 
 unfoldable pub read_of : List ℕ → Reading
-read_of s = pick (ltb (length s) 6) (Refused (refusal 20)) (answered (header_of s) (judge (header_of s) (drop 6 s)))
+read_of s = pick (ltb (length s) 6) (Err 20) (answered (header_of s) (judge (header_of s) (drop 6 s)))

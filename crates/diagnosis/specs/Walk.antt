@@ -1,19 +1,21 @@
 -- The walk over the blocks of a diagnosis, one block at a time (document 01, "Diagnosis").
-use Rattle.std.specs.Prelude.{ℕ, ◌+◌, ◌-◌, ◌/◌, ◌%◌, List, length, get_or, take, drop, eqb, ltb}
+use Rattle.std.specs.Prelude.{ℕ, ◌+◌, ◌-◌, ◌/◌, ◌%◌, List, length, get_or, take, drop, eqb, ltb, Ok, Err, Result}
 use Rattle.octets.specs.Choice.{pick}
 use Rattle.diagnosis.specs.Map.{set_of, lowest_of}
-use Rattle.diagnosis.specs.Block.{direction_place, type_place, refusal, found_at}
+use Rattle.diagnosis.specs.Block.{direction_place, type_place, found_at, Found}
 use Rattle.diagnosis.specs.declared.block.Kind as the-kind
 use Rattle.diagnosis.specs.declared.block.Kind.TheVariants as kind
 use Rattle.diagnosis.specs.declared.block.Extent.{Extent}
-use Rattle.diagnosis.specs.declared.block.Found.{Found}
-use Rattle.diagnosis.specs.declared.block.Found.TheVariants as found
 use Rattle.diagnosis.specs.declared.walk.Channel as the-channel
 use Rattle.diagnosis.specs.declared.walk.Block as TheBlock
 use Rattle.diagnosis.specs.declared.walk.Block.TheVariants.{Device, Module, Channel}
 use Rattle.diagnosis.specs.declared.walk.Position.{Position}
-use Rattle.diagnosis.specs.declared.walk.Step.{Step}
-use Rattle.diagnosis.specs.declared.walk.Step.TheVariants.{Block, End, Refused}
+use Rattle.diagnosis.specs.declared.walk.Step as walk
+use Rattle.diagnosis.specs.declared.walk.Step.TheVariants.{Block, End}
+
+-- what the walk finds at a position, or a refusal's number
+abbrev pub Step : Type 0
+Step = Result walk.Step ℕ
 
 abbrev pub position : ℕ → Position
 position at = record { at = at }
@@ -43,12 +45,12 @@ abbrev pub block_of : List ℕ → (at : ℕ) → Extent → TheBlock.Block
 block_of s at e = block_by s at e.kind e.len
 
 abbrev pub step_of : List ℕ → (at : ℕ) → Found → Step
-step_of s at (found.Is e) = Block (block_of s at e) (position (at + e.len))
-step_of s at (found.Refused r) = Refused r
+step_of s at (Ok e) = Ok (Block (block_of s at e) (position (at + e.len)))
+step_of s at (Err r) = Err r
 
 -- one step, from any position: the blocks begin behind the header
 unfoldable pub next_of : List ℕ → (at : ℕ) → Step
 next_of s at =
-    pick (ltb at 6) (Refused (refusal 12))
-    (pick (ltb (length s) at) (Refused (refusal 12))
-    (pick (eqb (length s - at) 0) End (step_of s at (found_at s at))))
+    pick (ltb at 6) (Err 12)
+    (pick (ltb (length s) at) (Err 12)
+    (pick (eqb (length s - at) 0) (Ok End) (step_of s at (found_at s at))))

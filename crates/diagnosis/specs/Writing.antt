@@ -1,5 +1,5 @@
 -- Writing a diagnosis and its blocks (document 01, "Diagnosis"): the bytes, and which fields and parts may be written.
-use Rattle.std.specs.Prelude.{ℕ, ◌+◌, ◌*◌, Bool, not, List, [], ◌∷◌, ◌++◌, length, eqb, ltb, leb}
+use Rattle.std.specs.Prelude.{ℕ, ◌+◌, ◌*◌, Bool, not, List, [], ◌∷◌, ◌++◌, length, eqb, ltb, leb, Result, Ok, Err}
 use Rattle.octets.specs.Choice.{pick, ◌and◌}
 use Rattle.octets.specs.Number.{bytes_of}
 use Rattle.octets.specs.Front.{Verdict, fine, fault}
@@ -9,8 +9,6 @@ use Rattle.diagnosis.specs.declared.block.Kind.{Kind}
 use Rattle.diagnosis.specs.declared.block.Kind.TheVariants.{Device, Module, Channel}
 use Rattle.diagnosis.specs.declared.walk.Channel as the-channel
 use Rattle.diagnosis.specs.declared.reading.Header.{Header}
-use Rattle.diagnosis.specs.declared.reading.Count.{Count}
-use Rattle.diagnosis.specs.declared.reading.Count.TheVariants.{Blocks, Refused}
 
 -- ---- a whole diagnosis
 
@@ -20,11 +18,12 @@ header_bytes h = h.status1 ∷ h.status2 ∷ h.status3 ∷ h.master ∷ bytes_of
 abbrev pub diagnosis_bytes : Header → (blocks : List ℕ) → List ℕ
 diagnosis_bytes h blocks = header_bytes h ++ blocks
 
--- what reading would refuse is not written, and the number is the same
-abbrev pub verdict_by : Count → Verdict
-verdict_by (Blocks n) = fine
-verdict_by (Refused r) = fault r.number
+-- the verdict that reading, a step or what was found at a place came to
+abbrev pub verdict_by : {A : Type 0} → Result A ℕ → Verdict
+verdict_by (Ok a) = fine
+verdict_by (Err r) = fault r
 
+-- what reading would refuse is not written, and the number is the same
 abbrev pub verdict_of : Header → (blocks : List ℕ) → Verdict
 verdict_of h blocks = verdict_by (judge h blocks)
 

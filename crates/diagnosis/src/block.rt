@@ -2,8 +2,6 @@
 ghost use Rattle.std.specs.Prelude.{◌≡◌};
 ghost use Rattle.diagnosis.specs.Block.{good_code};
 
-use octets::Refusal;
-
 // Bits 7-6 of a block's header, by its kind.
 pub const DEVICE_BLOCK: u8 = 0;
 
@@ -26,13 +24,8 @@ pub struct Extent {
     pub len: usize,
 }
 
-#[derive(Drop)]
-pub enum Found {
-    Is(Extent),
-    Refused(Refusal),
-}
-
 // Whether the codes of a channel block's third byte, its channel type and its error, are in use.
+#[tactic(auto, unfolding(crate::specs::Block::good_code))]
 pub fn good_code(kind: u8, error: u8) -> bool
     ensures { result ≡ good_code kind error }
 {

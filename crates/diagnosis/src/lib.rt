@@ -3,11 +3,9 @@
 #![tactic(auto)]
 
 mod block;
-mod map;
 mod reading;
 mod walk;
 
-pub use block::{CHANNEL_BLOCK, DEVICE_BLOCK, Extent, Found, Kind, MODULE_BLOCK, good_code};
-pub use map::Lowest;
-pub use reading::{Count, Header, Reading};
+pub use block::{CHANNEL_BLOCK, DEVICE_BLOCK, Extent, Kind, MODULE_BLOCK, good_code};
+pub use reading::{Header, Reading};
 pub use walk::{Block, Channel, Position, Step};

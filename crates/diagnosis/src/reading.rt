@@ -1,5 +1,4 @@
 // What reading a diagnosis answers.
-use octets::Refusal;
 
 // The six bytes that every diagnosis has. The master is its address, 255 for none.
 #[derive(Clone, Copy)]
@@ -11,16 +10,9 @@ pub struct Header {
     pub ident: u16,
 }
 
-// What bytes are. The blocks, so many, stand from byte 6 to the end.
-#[derive(Drop)]
-pub enum Reading {
-    Diagnosis { header: Header, blocks: usize },
-    Refused(Refusal),
-}
-
-// How many blocks there are, or why the bytes are no diagnosis.
-#[derive(Drop)]
-pub enum Count {
-    Blocks(usize),
-    Refused(Refusal),
+// A diagnosis: its header, and how many blocks are behind it.
+#[derive(Clone, Copy)]
+pub struct Reading {
+    pub header: Header,
+    pub blocks: usize,
 }

@@ -1,7 +1,5 @@
 // What the walk over the blocks of a diagnosis answers. A position is a place in the bytes, and the parts of
 // a block are places too.
-use crate::map::Lowest;
-use octets::Refusal;
 
 // The fields of a channel block.
 #[derive(Clone, Copy)]
@@ -31,7 +29,7 @@ pub enum Block {
         start: usize,
         len: usize,
         set: usize,
-        lowest: Lowest,
+        lowest: Option<usize>,
     },
     Channel(Channel),
 }
@@ -42,10 +40,9 @@ pub struct Position {
     pub at: usize,
 }
 
-// What the walk finds at a position: a block and the position behind it, the end, or a refusal.
+// What the walk finds at a position: a block and the position behind it, or the end.
 #[derive(Drop)]
 pub enum Step {
     Block(Block, Position),
     End,
-    Refused(Refusal),
 }

@@ -2,13 +2,15 @@
 #![tactic(auto)]
 
 ghost use Rattle.std.specs.Prelude.{◌≡◌, ◌≤◌, length, drop};
+ghost use Rattle.octets.specs.Refusals.{told};
 ghost use Rattle.diagnosis.specs.Reading.{good_status1, good_status2, good_status3, good_master, ext_diag_agrees, count_of, agreed, judge, header_of, read_of};
 
-use diagnosis::{Count, Found, Header, Reading};
+use diagnosis::{Header, Reading};
 use diagnosis_block::found_at;
 use octets::Refusal;
 
 // Bits 0, 5 and 7 are 0.
+#[tactic(auto, unfolding(diagnosis::specs::Reading::good_status1))]
 fn good_status1(status: u8) -> bool
     ensures { result ≡ good_status1 status }
 {
@@ -22,6 +24,7 @@ fn good_status1(status: u8) -> bool
 }
 
 // Bit 2 is 1; bits 6 and 7 are 0.
+#[tactic(auto, unfolding(diagnosis::specs::Reading::good_status2))]
 fn good_status2(status: u8) -> bool
     ensures { result ≡ good_status2 status }
 {
@@ -39,6 +42,7 @@ fn good_status3(status: u8) -> bool
 }
 
 // An address, or none.
+#[tactic(auto, unfolding(diagnosis::specs::Reading::good_master))]
 fn good_master(master: u8) -> bool
     ensures { result ≡ good_master master }
 {
@@ -49,6 +53,7 @@ fn good_master(master: u8) -> bool
 }
 
 // Whether Ext_Diag, bit 3 of status 1, agrees with the number of blocks.
+#[tactic(auto, unfolding(diagnosis::specs::Reading::ext_diag_agrees))]
 fn ext_diag_agrees(status1: u8, blocks: usize) -> bool
     ensures { result ≡ ext_diag_agrees status1 blocks }
 {
@@ -60,71 +65,58 @@ fn ext_diag_agrees(status1: u8, blocks: usize) -> bool
 }
 
 // Walks over the blocks of s from a place on: they end where s ends.
-fn count_from(s: &[u8], from: usize) -> Count
+fn count_from(s: &[u8], from: usize) -> Result<usize, Refusal>
     requires { from ≤ length s.now }
-    ensures { result ≡ count_of (drop from s.now) }
+    ensures { told result ≡ count_of (drop from s.now) }
 {
     let mut at = from;
     let mut blocks: usize = 0;
     while at < s.len() {
-        let found = found_at(s, at);
-        match found {
-            Found::Is(extent) => {
-                at += extent.len;
-                blocks += 1;
-            }
-            Found::Refused(refusal) => {
-                return Count::Refused(refusal);
-            }
-        }
+        at += found_at(s, at)?.len;
+        blocks += 1;
     }
-    Count::Blocks(blocks)
+    Ok(blocks)
 }
 
 // The same, where the number of blocks must agree with Ext_Diag.
-fn agreeing_from(status1: u8, s: &[u8], from: usize) -> Count
+fn agreeing_from(status1: u8, s: &[u8], from: usize) -> Result<usize, Refusal>
     requires { from ≤ length s.now }
-    ensures { result ≡ agreed status1 (count_of (drop from s.now)) }
+    ensures { told result ≡ agreed status1 (count_of (drop from s.now)) }
 {
-    let count = count_from(s, from);
-    match count {
-        Count::Refused(refusal) => Count::Refused(refusal),
-        Count::Blocks(blocks) => {
-            if ext_diag_agrees(status1, blocks) {
-                Count::Blocks(blocks)
-            } else {
-                Count::Refused(Refusal { number: 22 })
-            }
-        }
+    let blocks = count_from(s, from)?;
+    if !ext_diag_agrees(status1, blocks) {
+        return Err(Refusal::ExtDiag);
     }
+    Ok(blocks)
 }
 
 // What a header with the bytes of s from a place on behind it is.
-fn judged(header: Header, s: &[u8], from: usize) -> Count
+#[tactic(auto, unfolding(diagnosis::specs::Reading::judge))]
+fn judged(header: Header, s: &[u8], from: usize) -> Result<usize, Refusal>
     requires { from ≤ length s.now }
-    ensures { result ≡ judge header (drop from s.now) }
+    ensures { told result ≡ judge header (drop from s.now) }
 {
     if 238 < s.len() - from {
-        return Count::Refused(Refusal { number: 20 });
+        return Err(Refusal::DataLength);
     }
     if !good_status1(header.status1) {
-        return Count::Refused(Refusal { number: 21 });
+        return Err(Refusal::DataByte);
     }
     if !good_status2(header.status2) {
-        return Count::Refused(Refusal { number: 21 });
+        return Err(Refusal::DataByte);
     }
     if !good_status3(header.status3) {
-        return Count::Refused(Refusal { number: 21 });
+        return Err(Refusal::DataByte);
     }
     if !good_master(header.master) {
-        return Count::Refused(Refusal { number: 21 });
+        return Err(Refusal::DataByte);
     }
     agreeing_from(header.status1, s, from)
 }
 
 // How many blocks stand behind a header, or why the two are no diagnosis: reading and writing judge alike.
-pub fn blocks_behind(header: Header, blocks: &[u8]) -> Count
-    ensures { result ≡ judge header blocks.now }
+pub fn blocks_behind(header: Header, blocks: &[u8]) -> Result<usize, Refusal>
+    ensures { told result ≡ judge header blocks.now }
 {
     judged(header, blocks, 0)
 }
@@ -143,16 +135,14 @@ fn header_of(bytes: &[u8]) -> Header
 }
 
 // Reads a diagnosis: all of the lent slice is one.
-pub fn read(bytes: &[u8]) -> Reading
-    ensures { result ≡ read_of bytes.now }
+#[tactic(auto, unfolding(diagnosis::specs::Reading::read_of))]
+pub fn read(bytes: &[u8]) -> Result<Reading, Refusal>
+    ensures { told result ≡ read_of bytes.now }
 {
     if bytes.len() < 6 {
-        return Reading::Refused(Refusal { number: 20 });
+        return Err(Refusal::DataLength);
     }
     let header = header_of(bytes);
-    let count = judged(header, bytes, 6);
-    match count {
-        Count::Refused(refusal) => Reading::Refused(refusal),
-        Count::Blocks(blocks) => Reading::Diagnosis { header, blocks },
-    }
+    let blocks = judged(header, bytes, 6)?;
+    Ok(Reading { header, blocks })
 }

@@ -1,11 +1,11 @@
 -- One byte more of a module map: its bits are counted by `ones`, and searched by `count_trailing_zeros`.
+use Rattle.std.specs.Prelude.{Some}
 use mathlib.Core.Path.{◌≡◌, refl, sym, ap, ap₂, ◌∙◌}
 use mathlib.Core.Bool.{Bool, true, false}
 use mathlib.Core.List.{List}
 use Prim.Native.Nat.{ℕ, zero, suc, ◌+◌, ◌*◌, ◌-◌, ◌/◌, ◌%◌, ◌^◌, ◌<◌}
 use native.Mathlib.Omega.{arith}
-use native.Mathlib.Nat.{pow-suc, add-zero, suc-add, zero-add}
-use native.Mathlib.Nat.{div-one}
+use native.Mathlib.Nat.{pow-suc, add-zero, suc-add, zero-add, div-one}
 use lib.ListN.{length, get_or}
 use lib.Dec.{eqb}
 use lib.Pow.{shr-shr}
@@ -14,7 +14,6 @@ use borrow.Author.Tests.{eq-eqb, ne_eqb, eqb-true, eqb-false}
 use Rattle.octets.specs.Choice.{pick}
 use Rattle.diagnosis.specs.Map.{reports, count_from, lowest_from}
 use Rattle.diagnosis.proofs.Lemmas.Map.{bit}
-use Rattle.diagnosis.specs.declared.map.Lowest.TheVariants.{Module}
 
 -- the d numbers from k on pass a test as the d lowest bits of x are set
 abbrev Bits : (test : ℕ → Bool) (k d x : ℕ) → Type 0
@@ -54,7 +53,7 @@ module _ (test : ℕ → Bool) where
       ap (count_from test k) (suc-add d n) ∙ omega arith
 
   lowest_bits : (d k x n : ℕ) → x < 2 ^ d → Bits test k d x
-      → lowest_from test k (d + n) ≡ pick (eqb x 0) (lowest_from test (k + d) n) (Module (k + count_trailing_zeros d x))
+      → lowest_from test k (d + n) ≡ pick (eqb x 0) (lowest_from test (k + d) n) (Some (k + count_trailing_zeros d x))
   unfolding lowest_from count_trailing_zeros
   lowest_bits zero k x n h b =
       let z : x ≡ 0 = omega arith in
@@ -62,7 +61,7 @@ module _ (test : ℕ → Bool) where
   lowest_bits (suc d) k x n h b =
       let s : x / 2 < 2 ^ d = omega (arith, rw (pow-suc 2 d) at h) in
       ap (lowest_from test k) (suc-add d n)
-      ∙ ap (λ (v : Bool). pick v (Module k) (lowest_from test (suc k) (d + n))) (first test k d x b)
+      ∙ ap (λ (v : Bool). pick v (Some k) (lowest_from test (suc k) (d + n))) (first test k d x b)
       ∙ parity (lowest_bits d (suc k) (x / 2) n s (others test k d x b)) (x % 2) refl
     where
       -- an even number is 0 where its half is
@@ -75,16 +74,16 @@ module _ (test : ℕ → Bool) where
           ne_eqb _ _ z
 
       parity :
-          lowest_from test (suc k) (d + n) ≡ pick (eqb (x / 2) 0) (lowest_from test (suc k + d) n) (Module (suc k + count_trailing_zeros d (x / 2)))
+          lowest_from test (suc k) (d + n) ≡ pick (eqb (x / 2) 0) (lowest_from test (suc k + d) n) (Some (suc k + count_trailing_zeros d (x / 2)))
           → (r : ℕ) → x % 2 ≡ r
-          → pick (eqb r 1) (Module k) (lowest_from test (suc k) (d + n))
-          ≡ pick (eqb x 0) (lowest_from test (k + suc d) n) (Module (k + under r (count_trailing_zeros d (x / 2))))
+          → pick (eqb r 1) (Some k) (lowest_from test (suc k) (d + n))
+          ≡ pick (eqb x 0) (lowest_from test (k + suc d) n) (Some (k + under r (count_trailing_zeros d (x / 2))))
       parity others-are zero e =
           let t : suc k + count_trailing_zeros d (x / 2) ≡ k + suc (count_trailing_zeros d (x / 2)) = omega arith in
           let l : suc k + d ≡ k + suc d = omega arith in
           others-are
-          ∙ ap (λ (v : Bool). pick v (lowest_from test (suc k + d) n) (Module (suc k + count_trailing_zeros d (x / 2)))) (half e (eqb x 0) refl)
-          ∙ ap₂ (λ (i j : ℕ). pick (eqb x 0) (lowest_from test i n) (Module j)) l t
+          ∙ ap (λ (v : Bool). pick v (lowest_from test (suc k + d) n) (Some (suc k + count_trailing_zeros d (x / 2)))) (half e (eqb x 0) refl)
+          ∙ ap₂ (λ (i j : ℕ). pick (eqb x 0) (lowest_from test i n) (Some j)) l t
       parity others-are (suc zero) e =
           let z : x ≡ 0 → ⊥ = λ q. omega arith in
           simp (ne_eqb x 0 z, add-zero)
@@ -115,11 +114,11 @@ module _ (map : List ℕ) (i : ℕ) (h : i < length map) (b : get_or map i 0 < 2
 
   pub lowest_byte : lowest_from (reports map) (8 * i) (8 * (length map - i))
       ≡ pick (eqb (get_or map i 0) 0) (lowest_from (reports map) (8 * (i + 1)) (8 * (length map - (i + 1))))
-      (Module (8 * i + count_trailing_zeros 8 (get_or map i 0)))
+      (Some (8 * i + count_trailing_zeros 8 (get_or map i 0)))
   lowest_byte =
       ap (lowest_from (reports map) (8 * i)) left
       ∙ lowest_bits (reports map) 8 (8 * i) (get_or map i 0) (8 * (length map - (i + 1))) b here
       ∙ ap
       (λ (y : ℕ).
-      pick (eqb (get_or map i 0) 0) (lowest_from (reports map) y (8 * (length map - (i + 1)))) (Module (8 * i + count_trailing_zeros 8 (get_or map i 0))))
+      pick (eqb (get_or map i 0) 0) (lowest_from (reports map) y (8 * (length map - (i + 1)))) (Some (8 * i + count_trailing_zeros 8 (get_or map i 0))))
       next

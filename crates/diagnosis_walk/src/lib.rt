@@ -3,12 +3,13 @@
 #![tactic(auto)]
 
 ghost use Rattle.std.specs.Prelude.{◌≡◌, ◌+◌, ◌≤◌, ◌<◌, length, get_or};
+ghost use Rattle.octets.specs.Refusals.{told};
 ghost use Rattle.diagnosis.specs.Block.{found_at};
 ghost use Rattle.diagnosis.specs.Walk.{position, fields_of, block_of, next_of};
 
 mod map;
 
-use diagnosis::{Block, Channel, Extent, Found, Kind, Position, Step};
+use diagnosis::{Block, Channel, Extent, Kind, Position, Step};
 use diagnosis_block::found_at;
 use map::{lowest_module, set_bits};
 use octets::Refusal;
@@ -35,7 +36,7 @@ fn fields_at(s: &[u8], at: usize) -> Channel
 
 // What the block at a place says, where one was found.
 fn block_at(s: &[u8], at: usize, extent: Extent) -> Block
-    requires { (at < length s.now) × (found_at s.now at ≡ Found.Is extent) }
+    requires { (at < length s.now) × (found_at s.now at ≡ Ok extent) }
     ensures { result ≡ block_of s.now at extent }
 {
     let kind = extent.kind;
@@ -61,31 +62,27 @@ fn block_at(s: &[u8], at: usize, extent: Extent) -> Block
 }
 
 // One step of the walk, from any position over any bytes.
-pub fn next(bytes: &[u8], position: Position) -> Step
-    ensures { result ≡ next_of bytes.now position.at }
+#[tactic(auto, using(diagnosis::proofs::Lemmas::Found::within_at), unfolding(diagnosis::specs::Walk::next_of))]
+pub fn next(bytes: &[u8], position: Position) -> Result<Step, Refusal>
+    ensures { told result ≡ next_of bytes.now position.at }
 {
     let at = position.at;
     if at < 6 {
-        return Step::Refused(Refusal { number: 12 });
+        return Err(Refusal::Field);
     }
     if bytes.len() < at {
-        return Step::Refused(Refusal { number: 12 });
+        return Err(Refusal::Field);
     }
     // With `<=`, not `==`, the compiler sees that found_at's own test never refuses here, and drops it.
     if bytes.len() <= at {
-        return Step::End;
+        return Ok(Step::End);
     }
-    let found = found_at(bytes, at);
-    match found {
-        Found::Refused(refusal) => Step::Refused(refusal),
-        Found::Is(extent) => {
-            let block = block_at(bytes, at, extent);
-            Step::Block(
-                block,
-                Position {
-                    at: at + extent.len,
-                },
-            )
-        }
-    }
+    let extent = found_at(bytes, at)?;
+    let block = block_at(bytes, at, extent);
+    Ok(Step::Block(
+        block,
+        Position {
+            at: at + extent.len,
+        },
+    ))
 }

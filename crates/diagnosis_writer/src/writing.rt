@@ -1,11 +1,12 @@
 // Writing a diagnosis at the front of a lent slice.
 ghost use Rattle.std.specs.Prelude.{◌≡◌, ◌≤◌, length};
+ghost use Rattle.octets.specs.Refusals.{told};
 ghost use Rattle.octets.specs.Front.{AtFront, answer_by, held_by};
 ghost use Rattle.diagnosis.specs.Writing.{header_bytes, diagnosis_bytes, verdict_of};
 
-use diagnosis::{Count, Header};
+use diagnosis::Header;
 use diagnosis_reader::blocks_behind;
-use octets::Written;
+use octets::Refusal;
 
 fn put_header(header: Header, out: &mut [u8]) -> usize
     requires { 6 ≤ length out.old }
@@ -27,18 +28,14 @@ fn put_diagnosis(header: Header, blocks: &[u8], out: &mut [u8]) -> usize
 }
 
 // Writes a diagnosis from its header and the bytes of its blocks.
-pub fn write(header: Header, blocks: &[u8], out: &mut [u8]) -> Written
-    ensures answer { result ≡ answer_by (verdict_of header blocks.now) (diagnosis_bytes header blocks.now) (length out.old) }
+#[tactic(auto, unfolding(octets::specs::Front::answer_by, octets::specs::Front::held_by))]
+pub fn write(header: Header, blocks: &[u8], out: &mut [u8]) -> Result<usize, Refusal>
+    ensures answer { told result ≡ answer_by (verdict_of header blocks.now) (diagnosis_bytes header blocks.now) (length out.old) }
     ensures bytes { out.new ≡ held_by (verdict_of header blocks.now) (diagnosis_bytes header blocks.now) out.old }
 {
-    let count = blocks_behind(header, blocks);
-    match count {
-        Count::Refused(refusal) => Written::Refused(refusal.number),
-        Count::Blocks(_) => {
-            if out.len() < 6 + blocks.len() {
-                return Written::Refused(11);
-            }
-            Written::Stored(put_diagnosis(header, blocks, out))
-        }
+    blocks_behind(header, blocks)?;
+    if out.len() < 6 + blocks.len() {
+        return Err(Refusal::NoRoom);
     }
+    Ok(put_diagnosis(header, blocks, out))
 }

@@ -1,4 +1,5 @@
 -- A download while it runs: what is left from the present on comes to the whole.
+use Rattle.std.specs.Prelude.{Ok, Err}
 use Prim.Native.Nat.{ℕ, suc, ◌+◌, ◌-◌, ◌*◌, ◌≤◌, ◌<◌}
 use mathlib.Core.Path.{◌≡◌, refl, sym, ap, ◌∙◌, subst}
 use mathlib.Core.List.{List, []}
@@ -13,9 +14,9 @@ use Rattle.octets.specs.Front.{fine, over}
 use Rattle.book.specs.Contents.{templates_of}
 use Rattle.protocol.specs.Line as line
 use Rattle.protocol.specs.Line.{Passage, go, stop}
-use Rattle.protocol.specs.Printer.{Station, Stepped, stepped}
+use Rattle.protocol.specs.Printer.{Station, Stepped, stepped, Reaction}
 use Rattle.protocol.specs.Printer as printer
-use Rattle.protocol.specs.Controller.{Move, Acted, acted, state_verdict}
+use Rattle.protocol.specs.Controller.{Move, Acted, acted, state_verdict, Action}
 use Rattle.protocol.specs.Controller as controller
 use Rattle.protocol.specs.Download.{Given, Config, hears, steps, begin, sendings, bound, download, given, passage_by, passages_of, verdict_of, request_buffer, leaving, whole_by, download_of}
 use Rattle.protocol.specs.Demand.{NotRefused}
@@ -24,16 +25,12 @@ use Rattle.protocol.proofs.Lemmas.Accepted.{usable, entry_known, Taken, has_room
 use Rattle.protocol.proofs.Lemmas.Runs.{at, run_stop, transcript_stop}
 use Rattle.protocol.proofs.MachineLaws.Room.{over_long}
 use Rattle.protocol.proofs.MachineLaws.Steps.{usable_after, step_moves, Kept, move_kept}
-use Rattle.protocol.specs.declared.controller.Action.{Action}
 use Rattle.protocol.specs.declared.controller.Action.TheVariants as action
 use Rattle.protocol.specs.declared.controller.Controller.{Controller}
 use Rattle.protocol.specs.declared.controller.Controller.TheVariants as state
 use Rattle.protocol.specs.declared.controller.Ending.{Ending}
 use Rattle.protocol.specs.declared.controller.Settings.{Settings}
-use Rattle.protocol.specs.declared.download.Downloaded.TheVariants as downloaded
 use Rattle.protocol.specs.declared.printer.Printer.{Printer}
-use Rattle.protocol.specs.declared.printer.Reaction.{Reaction}
-use Rattle.protocol.specs.declared.printer.Reaction.TheVariants as reaction
 use Rattle.sending.specs.Laws.{station_after, Sent, sent_so}
 use Rattle.sending.specs.Sending.{sent_by, sent_of}
 use Rattle.download.proofs.Entries.{passage_at, rest_at}
@@ -42,10 +39,10 @@ use Rattle.download.proofs.Entries.{passage_at, rest_at}
 
 -- the action that shows it, and the request's buffer then
 data Shows (before : List ℕ) : Move → Action → (request : List ℕ) → Type 0 where
-  sends : {q : List ℕ} {o : Controller} → Shows before (go q o) (action.Send o (length q)) (over q before)
-  ends : {e : Ending} → Shows before (stop e) (action.End e) before
+  sends : {q : List ℕ} {o : Controller} → Shows before (go q o) (Ok (action.Send o (length q))) (over q before)
+  ends : {e : Ending} → Shows before (stop e) (Ok (action.End e)) before
 
-going : {before request : List ℕ} {m : Move} {a : Action} → Shows before m a request → (o : Controller) (n : ℕ) → a ≡ action.Send o n
+going : {before request : List ℕ} {m : Move} {a : Action} → Shows before m a request → (o : Controller) (n : ℕ) → a ≡ Ok (action.Send o n)
     → (m ≡ go (take n request) o) × (request ≡ over (take n request) before)
 going {before} (sends {q} {o = o'}) o n e =
     let same : o' ≡ o = cc in
@@ -54,11 +51,11 @@ going {before} (sends {q} {o = o'}) o n e =
     (rw (front, same), rw front)
 going ends o n e = absurd (let z : ◌≡◌ {A = ℕ} 0 1 = cc in omega arith)
 
-stopping : {before request : List ℕ} {m : Move} {a : Action} → Shows before m a request → (f : Ending) → a ≡ action.End f → (m ≡ stop f) × (request ≡ before)
+stopping : {before request : List ℕ} {m : Move} {a : Action} → Shows before m a request → (f : Ending) → a ≡ Ok (action.End f) → (m ≡ stop f) × (request ≡ before)
 stopping sends f e = absurd (let z : ◌≡◌ {A = ℕ} 0 1 = cc in omega arith)
 stopping (ends {e = e'}) f e = let same : e' ≡ f = cc in (ap stop same, refl)
 
-never_refused : {before request : List ℕ} {m : Move} {a : Action} → Shows before m a request → (k : ℕ) → a ≡ action.Refused k → ⊥
+never_refused : {before request : List ℕ} {m : Move} {a : Action} → Shows before m a request → (k : ℕ) → a ≡ Err k → ⊥
 never_refused sends k e = let z : ◌≡◌ {A = ℕ} 0 1 = cc in omega arith
 never_refused ends k e = let z : ◌≡◌ {A = ℕ} 0 1 = cc in omega arith
 
@@ -90,12 +87,12 @@ pub record Present (g : Given) (l : List Passage) (x : Station) (u : List ℕ) (
 
 -- the printer and what came back, as a sending leaves them
 abbrev station_by : Reaction → Station → Station
-station_by (reaction.Heard p n) y = record { printer = p; slots = y.slots; buffer = y.buffer }
-station_by (reaction.Refused k) y = y
+station_by (Ok found) y = record { printer = found.printer; slots = y.slots; buffer = y.buffer }
+station_by (Err k) y = y
 
 abbrev back_by : Reaction → (buffer : List ℕ) → List ℕ
-back_by (reaction.Heard p n) buffer = take n buffer
-back_by (reaction.Refused k) buffer = []
+back_by (Ok found) buffer = take found.reply buffer
+back_by (Err k) buffer = []
 
 module _ {c : Settings} {book entries diagnosis : List ℕ} {x : Station} {u : List ℕ} (not_yet : List ℕ) (t : Taken c book entries diagnosis x u) where
   abbrev g : Given
@@ -166,7 +163,7 @@ module _ {c : Settings} {book entries diagnosis : List ℕ} {x : Station} {u : L
     request_room p = omega (arith, still_long g p.shown (kept p) p.due.room, p.due.room)
 
     -- a request that is still to be sent is within the bound
-    pub more_left : {o : Controller} {n : ℕ} → a ≡ action.Send o n → Present g l x u m a y request → m < bound g
+    pub more_left : {o : Controller} {n : ℕ} → a ≡ Ok (action.Send o n) → Present g l x u m a y request → m < bound g
     unfolding line.run
     more_left {o} {n} e p = by (dec_lt m (bound g))
       where
@@ -178,7 +175,7 @@ module _ {c : Settings} {book entries diagnosis : List ℕ} {x : Station} {u : L
             absurd (all_are_sent g l x ok (ap (λ (z : Config). z.move) last ∙ (going p.shown o n e).0))
 
     -- a sending: the printer hears it, and what came back is the controller's next
-    module _ {o : Controller} {n : ℕ} (e : a ≡ action.Send o n) (p : Present g l x u m a y request) {r : Reaction} {lengths bodies reply : List ℕ}
+    module _ {o : Controller} {n : ℕ} (e : a ≡ Ok (action.Send o n)) (p : Present g l x u m a y request) {r : Reaction} {lengths bodies reply : List ℕ}
         (sent : printer.leaving r lengths bodies reply ≡ sent_of (get_or entries m 0) (take n request) not_yet diagnosis y) where
       abbrev q : List ℕ
       q = take n request
@@ -196,7 +193,7 @@ module _ {c : Settings} {book entries diagnosis : List ℕ} {x : Station} {u : L
       unfolding sent_of
       heard = sent ∙ rw (le-ltb 2 (get_or entries m 0) (entry_known entries t.entries m)) after.heard
 
-      pub hears_it : {k : ℕ} → r ≡ reaction.Refused k → ⊥
+      pub hears_it : {k : ℕ} → r ≡ Err k → ⊥
       hears_it f = let h = ap (λ (z : Stepped). z.answer) heard in let z : ◌≡◌ {A = ℕ} 0 1 = cc in omega arith
 
       due : Due g l x u (m + 1) o (line.reply_after (hears g) (steps g) (passage_by entry) y q) y' request
@@ -223,17 +220,17 @@ module _ {c : Settings} {book entries diagnosis : List ℕ} {x : Station} {u : L
             usable = usable_after g (passage_by entry) y q p.due.usable;
           }
 
-      pub goes_on : {h : Printer} {k : ℕ} → r ≡ reaction.Heard h k → Due g l x u (m + 1) o (take k reply) (printer.lending h lengths bodies reply) request
+      pub goes_on : {h : Printer} {k : ℕ} → r ≡ Ok (record { printer = h; reply = k }) → Due g l x u (m + 1) o (take k reply) (printer.lending h lengths bodies reply) request
       goes_on {h} {k} f =
-          let z : printer.leaving (reaction.Heard h k) lengths bodies reply ≡ stepped (record { station = y'; reply = after.back }) =
+          let z : printer.leaving (Ok (record { printer = h; reply = k })) lengths bodies reply ≡ stepped (record { station = y'; reply = after.back }) =
           ap (λ (w : Reaction). printer.leaving w lengths bodies reply) (sym f) ∙ heard in
           let station : printer.lending h lengths bodies reply ≡ y' = ap (λ (w : Stepped). station_by w.answer (record { printer = h; slots = w.slots; buffer = w.buffer })) z in
           let back : take k reply ≡ line.reply_after (hears g) (steps g) (passage_by entry) y q = ap (λ (w : Stepped). back_by w.answer w.buffer) z ∙ after.reply in
           rw (station, back) due
 
     -- where it ends, the present is the whole
-    pub ended_so : {f : Ending} → a ≡ action.End f → Present g l x u m a y request
-        → leaving (downloaded.Ended f m y.printer) y.slots.lengths y.slots.bodies y.buffer request ≡ download_of c book entries not_yet diagnosis x u
+    pub ended_so : {f : Ending} → a ≡ Ok (action.End f) → Present g l x u m a y request
+        → leaving (Ok (record { ending = f; sent = m; printer = y.printer })) y.slots.lengths y.slots.bodies y.buffer request ≡ download_of c book entries not_yet diagnosis x u
     ended_so {f} e p =
         let here : Config = at (drop m l) y (moved p) m in
         let now = stopping p.shown f e in
@@ -243,5 +240,5 @@ module _ {c : Settings} {book entries diagnosis : List ℕ} {x : Station} {u : L
         sym (whole_so ∙ ap (λ (w : Config). whole_by w (sendings g l x (bound g)) u) last ∙ rw (now.0, buffer))
 
     -- and it is not refused
-    pub not_refused_now : {k : ℕ} → a ≡ action.Refused k → Present g l x u m a y request → ⊥
+    pub not_refused_now : {k : ℕ} → a ≡ Err k → Present g l x u m a y request → ⊥
     not_refused_now {k} e p = never_refused p.shown k e

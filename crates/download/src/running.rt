@@ -1,23 +1,16 @@
 // A whole download: the controller's step and the sending of its request, in turns, until it ends.
 ghost use Rattle.std.specs.Prelude.{◌≡◌, length};
+ghost use Rattle.octets.specs.Refusals.{told};
 ghost use Rattle.octets.specs.Front.{fine};
 ghost use Rattle.protocol.specs.Printer.{lending};
 ghost use Rattle.protocol.specs.Download.{leaving, verdict_of, download_of};
 ghost use Rattle.protocol.specs.Demand.{Downloads};
 
-use protocol::{Action, Check, Controller, Downloaded, Printer, Reaction, Settings};
-
-// Where a download stands before the controller's step: its state, the printer, and how many bytes of the last
-// reply came back.
-#[derive(Drop)]
-struct Stage {
-    controller: Controller,
-    printer: Printer,
-    back: u8,
-}
+use octets::Refusal;
+use protocol::{Action, Controller, Downloaded, Printer, Settings};
 
 // Goes on until the controller ends it. Its step stands in one place, so that the compiler puts it here. A
-// printer's refusal is passed on.
+// printer's refusal is passed on. `back` is how many bytes of the last reply came back.
 fn until_ended(
     settings: Settings,
     book: &[u8],
@@ -29,31 +22,26 @@ fn until_ended(
     bodies: &mut [u8; 3200],
     reply: &mut [u8],
     request: &mut [u8],
-) -> Downloaded
+) -> Result<Downloaded, Refusal>
     requires { verdict_of settings book.now line.now diagnosis.now (lending printer lengths.old bodies.old reply.old) request.old ≡ fine }
-    ensures { leaving result lengths.new bodies.new reply.new request.new
+    ensures { leaving (told result) lengths.new bodies.new reply.new request.new
         ≡ download_of settings book.now line.now not_yet.now diagnosis.now (lending printer lengths.old bodies.old reply.old) request.old }
 {
+    let mut controller = Controller::Fresh;
+    let mut printer = printer;
+    let mut back: u8 = 0;
     let mut sent: u16 = 0;
-    let mut now = Stage {
-        controller: Controller::Fresh,
-        printer,
-        back: 0,
-    };
     loop {
-        let controller = now.controller;
-        let printer = now.printer;
-        let end = now.back as usize;
-        let action = controller::step(settings, book, controller, &reply[..end], request);
+        let end = back as usize;
+        let action = controller::step(settings, book, controller, &reply[..end], request)?;
         match action {
             Action::End(ending) => {
-                return Downloaded::Ended {
+                return Ok(Downloaded {
                     ending,
                     sent,
                     printer,
-                };
+                });
             }
-            Action::Refused(number) => return Downloaded::Refused(number),
             Action::Send {
                 controller: next,
                 request: count,
@@ -69,20 +57,10 @@ fn until_ended(
                     lengths,
                     bodies,
                     reply,
-                );
-                match reaction {
-                    Reaction::Refused(number) => return Downloaded::Refused(number),
-                    Reaction::Heard {
-                        printer: heard,
-                        reply: back,
-                    } => {
-                        now = Stage {
-                            controller: next,
-                            printer: heard,
-                            back,
-                        };
-                    }
-                }
+                )?;
+                controller = next;
+                printer = reaction.printer;
+                back = reaction.reply;
                 sent += 1;
             }
         }
@@ -98,6 +76,7 @@ fn sixteen(lengths: &[u8; 16], bodies: &[u8; 3200])
 }
 
 // Runs a whole download of a book to a printer.
+#[tactic(auto, unfolding(protocol::specs::Download::download_of))]
 pub fn run(
     settings: Settings,
     book: &[u8],
@@ -109,19 +88,16 @@ pub fn run(
     bodies: &mut [u8; 3200],
     reply: &mut [u8],
     request: &mut [u8],
-) -> Downloaded
-    ensures whole { leaving result lengths.new bodies.new reply.new request.new
+) -> Result<Downloaded, Refusal>
+    ensures whole { leaving (told result) lengths.new bodies.new reply.new request.new
         ≡ download_of settings book.now line.now not_yet.now diagnosis.now (lending printer lengths.old bodies.old reply.old) request.old }
     ensures demand { verdict_of settings book.now line.now diagnosis.now (lending printer lengths.old bodies.old reply.old) request.old ≡ fine
-        → Downloads settings book.now line.now not_yet.now diagnosis.now (lending printer lengths.old bodies.old reply.old) (leaving result lengths.new bodies.new reply.new request.new) }
+        → Downloads settings book.now line.now not_yet.now diagnosis.now (lending printer lengths.old bodies.old reply.old) (leaving (told result) lengths.new bodies.new reply.new request.new) }
 {
     sixteen(lengths, bodies);
-    let verdict = download_check::usable(
+    download_check::usable(
         settings, book, line, diagnosis, printer, lengths, bodies, reply, request,
-    );
-    if let Check::Refused(number) = verdict {
-        return Downloaded::Refused(number);
-    }
+    )?;
     until_ended(
         settings, book, line, not_yet, diagnosis, printer, lengths, bodies, reply, request,
     )

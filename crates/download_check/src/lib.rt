@@ -3,42 +3,40 @@
 #![tactic(auto)]
 
 ghost use Rattle.std.specs.Prelude.{◌≡◌};
-ghost use Rattle.protocol.specs.Check.{verdict_in};
+ghost use Rattle.octets.specs.Refusals.{verdict_in};
 ghost use Rattle.protocol.specs.Controller.{book_verdict};
 ghost use Rattle.book.specs.Reading as book-format;
 ghost use Rattle.protocol.specs.Download.{line_verdict, verdict_of};
 ghost use Rattle.protocol.specs.Printer as printer-step;
 
-use book::Reading;
-use protocol::{Check, Printer, Settings};
+use octets::Refusal;
+use protocol::{Printer, Settings};
 
 // The book's own refusal, if it has one.
-fn book_check(book: &[u8]) -> Check
+fn book_check(book: &[u8]) -> Result<(), Refusal>
     ensures { verdict_in result ≡ book_verdict (book-format.read_of book.now) }
 {
-    let reading = book_reader::read(book);
-    match reading {
-        Reading::Book { count: _ } => Check::Fine,
-        Reading::Refused(refusal) => Check::Refused(refusal.number),
-    }
+    book_reader::read(book)?;
+    Ok(())
 }
 
-// Every entry of a line is 0, 1 or 2; any other gives 12.
-fn line_check(line: &[u8]) -> Check
+// Every entry of a line is 0, 1 or 2; any other gives 12. It is a `for` and no `any`, of which the compiler makes a
+// slower loop.
+#[tactic(auto, unfolding(protocol::specs::Download::line_verdict))]
+fn line_check(line: &[u8]) -> Result<(), Refusal>
     ensures { verdict_in result ≡ line_verdict line.now }
 {
-    let mut i: usize = 0;
-    while i < line.len() {
-        if 2 < line[i] {
-            return Check::Refused(12);
+    for &entry in line {
+        if 2 < entry {
+            return Err(Refusal::Field);
         }
-        i += 1;
     }
-    Check::Fine
+    Ok(())
 }
 
 // Whether a download may begin: the settings, the book, the line, the printer with what it is lent, and last
 // the room for a request.
+#[tactic(auto, unfolding(protocol::specs::Download::verdict_of))]
 pub fn usable(
     settings: Settings,
     book: &[u8],
@@ -49,27 +47,15 @@ pub fn usable(
     bodies: &[u8; 3200],
     reply: &[u8],
     request: &[u8],
-) -> Check
+) -> Result<(), Refusal>
     ensures { verdict_in result ≡ verdict_of settings book.now line.now diagnosis.now (printer-step.lending printer lengths.now bodies.now reply.now) request.now }
 {
-    let set = controller_state::usable(settings);
-    if let Check::Refused(number) = set {
-        return Check::Refused(number);
-    }
-    let templates = book_check(book);
-    if let Check::Refused(number) = templates {
-        return Check::Refused(number);
-    }
-    let entries = line_check(line);
-    if let Check::Refused(number) = entries {
-        return Check::Refused(number);
-    }
-    let station = printer_state::usable(printer, diagnosis, lengths, bodies, reply);
-    if let Check::Refused(number) = station {
-        return Check::Refused(number);
-    }
+    controller_state::usable(settings)?;
+    book_check(book)?;
+    line_check(line)?;
+    printer_state::usable(printer, diagnosis, lengths, bodies, reply)?;
     if request.len() < 255 {
-        return Check::Refused(11);
+        return Err(Refusal::NoRoom);
     }
-    Check::Fine
+    Ok(())
 }

@@ -1,6 +1,6 @@
 -- The customer's second demand for telegrams, and what else holds of every reading. Each law is stated once, over every
 -- kind of telegram and over any classes of function codes; the last section takes our own classes.
-use Rattle.std.specs.Prelude.{◌≡◌, refl, true, false, List, ℕ, ◌+◌, ◌≤◌, ◌<◌, length, get_or, take, set}
+use Rattle.std.specs.Prelude.{◌≡◌, refl, true, false, List, ℕ, ◌+◌, ◌≤◌, ◌<◌, length, get_or, take, set, Ok, Err}
 use Rattle.std.proofs.Math.Path.{sym}
 use Rattle.std.proofs.Common.{ap, ◌∙◌, subst, arith}
 use borrow.Author.Tests.{le-leb}
@@ -10,7 +10,7 @@ use Rattle.octets.specs.Front.{fine}
 use Rattle.octets.proofs.Fixed.{fault_fine}
 use Rattle.function_code.specs.Code.{class_of}
 use Rattle.function_code.proofs.Laws.{start_byte_reserved}
-use Rattle.fdl.specs.Reading.{read_by, read_of}
+use Rattle.fdl.specs.Reading.{read_by, read_of, Reading}
 use Rattle.fdl.specs.Writing.{telegram_of, user_start, token_verdict, verdict_by}
 use Rattle.fdl.specs.Contents.{Contents, nothing, confirmation, token, telegram, contents_in, contents_of, bytes_for, verdict_for, accepted, is_token}
 use Rattle.fdl.proofs.Lemmas.Extends.{within}
@@ -25,8 +25,7 @@ use Rattle.function_code.specs.declared.code.Class.{Class}
 use Rattle.function_code.specs.declared.code.Class.TheVariants.{Reserved}
 use Rattle.fdl.specs.declared.telegram.Format.{Format}
 use Rattle.fdl.specs.declared.telegram.Header.{Header}
-use Rattle.fdl.specs.declared.reading.Reading.{Reading}
-use Rattle.fdl.specs.declared.reading.Reading.TheVariants.{Telegram}
+use Rattle.fdl.specs.declared.reading.Reading.TheVariants.{Confirmation, Token, Telegram}
 
 module _ (classes : ℕ → Class) where
   -- (a) What is written reads back as the same fields and the same user data.
@@ -41,7 +40,7 @@ module _ (classes : ℕ → Class) where
 
   -- (a), of a telegram with fields: what the reading is. Its user data begin where writing put them.
   pub telegram_reads_back : (f : Format) (h : Header) (user : List ℕ) → verdict_by classes f h user ≡ fine
-      → read_by classes (telegram_of f h user) ≡ Telegram f h (user_start f h) (length user)
+      → read_by classes (telegram_of f h user) ≡ Ok (Telegram f h (user_start f h) (length user))
   telegram_reads_back f h user e = fields_back classes f h user (writable classes f h user e)
 
   -- (b) What is read may be written, and gives the same bytes again.
@@ -76,10 +75,10 @@ module _ (classes : ℕ → Class) where
     pub most : length s ≤ 255
 
   abbrev DataIn : List ℕ → Reading → Type 0
-  DataIn s (Telegram f h start len) = Inside s start len
-  DataIn s Reading.Confirmation = Unit
-  DataIn s (Reading.Token da sa) = Unit
-  DataIn s (Reading.Refused r) = Unit
+  DataIn s (Ok (Telegram f h start len)) = Inside s start len
+  DataIn s (Ok Confirmation) = Unit
+  DataIn s (Ok (Token da sa)) = Unit
+  DataIn s (Err r) = Unit
 
   inside : (s : List ℕ) {r : Reading} → Reads classes s r → DataIn s r
   inside s (case.confirmation e) = tt
@@ -91,7 +90,7 @@ module _ (classes : ℕ → Class) where
       }
   inside s case.refusal = tt
 
-  pub data_inside : (s : List ℕ) {f : Format} {h : Header} {start len : ℕ} → read_by classes s ≡ Telegram f h start len → Inside s start len
+  pub data_inside : (s : List ℕ) {f : Format} {h : Header} {start len : ℕ} → read_by classes s ≡ Ok (Telegram f h start len) → Inside s start len
   data_inside s e = subst (DataIn s) e (inside s (reads classes s))
 
 -- ---- by our classes, in which 68 hex is reserved

@@ -1,14 +1,13 @@
 -- What a telegram carries, whichever way it goes: the common ground on which the laws of reading and writing are stated.
-use Rattle.std.specs.Prelude.{ℕ, Bool, true, false, List, []}
+use Rattle.std.specs.Prelude.{ℕ, Bool, true, false, List, [], Ok, Err}
 use Rattle.octets.specs.Part.{part_of}
 use Rattle.octets.specs.Front.{Verdict, fine, fault}
-use Rattle.fdl.specs.Reading.{read_by}
+use Rattle.fdl.specs.Reading.{read_by, Reading}
 use Rattle.fdl.specs.Writing.{telegram_of, token_bytes, confirmation_bytes, verdict_by, token_verdict}
 use Rattle.function_code.specs.declared.code.Class.{Class}
 use Rattle.fdl.specs.declared.telegram.Format.{Format}
 use Rattle.fdl.specs.declared.telegram.Header.{Header}
-use Rattle.fdl.specs.declared.reading.Reading.{Reading}
-use Rattle.fdl.specs.declared.reading.Reading.TheVariants.{Confirmation, Token, Telegram, Refused}
+use Rattle.fdl.specs.declared.reading.Reading.TheVariants.{Confirmation, Token, Telegram}
 
 pub data Contents : Type 0 where
   nothing : Contents
@@ -18,10 +17,10 @@ pub data Contents : Type 0 where
 
 -- a reading's fields, and its user data as the part of the bytes that it names
 abbrev pub contents_in : List ℕ → Reading → Contents
-contents_in s Confirmation = confirmation
-contents_in s (Token da sa) = token da sa
-contents_in s (Telegram f h start len) = telegram f h (part_of s start len)
-contents_in s (Refused r) = nothing
+contents_in s (Ok Confirmation) = confirmation
+contents_in s (Ok (Token da sa)) = token da sa
+contents_in s (Ok (Telegram f h start len)) = telegram f h (part_of s start len)
+contents_in s (Err r) = nothing
 
 -- the bytes that writing stores for them
 abbrev pub bytes_for : Contents → List ℕ
@@ -43,13 +42,13 @@ module _ (classes : ℕ → Class) where
   contents_of s = contents_in s (read_by classes s)
 
 abbrev pub accepted : Reading → Bool
-accepted Confirmation = true
-accepted (Token da sa) = true
-accepted (Telegram f h start len) = true
-accepted (Refused r) = false
+accepted (Ok Confirmation) = true
+accepted (Ok (Token da sa)) = true
+accepted (Ok (Telegram f h start len)) = true
+accepted (Err r) = false
 
 abbrev pub is_token : Reading → Bool
-is_token Confirmation = false
-is_token (Token da sa) = true
-is_token (Telegram f h start len) = false
-is_token (Refused r) = false
+is_token (Ok Confirmation) = false
+is_token (Ok (Token da sa)) = true
+is_token (Ok (Telegram f h start len)) = false
+is_token (Err r) = false

@@ -1,3 +1,4 @@
+pub mod Sap
 pub mod Telegram
 pub mod Reading
 pub mod Writing

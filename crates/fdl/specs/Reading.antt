@@ -1,41 +1,50 @@
 -- Reading a telegram (document 01, "Refusal numbers" and "Telegram layouts"): the outermost layer stands last, and each
 -- byte that can be refused has a line of its own, in the order in which the faults decide.
-use Rattle.std.specs.Prelude.{ℕ, ◌+◌, ◌-◌, ◌%◌, not, List, length, get_or, take, drop, eqb, ltb}
+use Rattle.std.specs.Prelude.{ℕ, ◌+◌, ◌-◌, ◌%◌, not, List, length, get_or, take, drop, eqb, ltb, Ok, Err, Some, None, Result}
 use Rattle.octets.specs.Choice.{pick}
 use Rattle.function_code.specs.Code.{class_of, is_reserved}
 use Rattle.fdl.specs.Telegram.{start_byte, token_byte, confirmation_byte, checksum_of, sap_length}
 use Rattle.function_code.specs.declared.code.Class.{Class}
 use Rattle.fdl.specs.declared.telegram.Format.{Format}
 use Rattle.fdl.specs.declared.telegram.Format.TheVariants.{Sd1, Sd2, Sd3}
-use Rattle.fdl.specs.declared.telegram.Sap.{Sap}
-use Rattle.fdl.specs.declared.telegram.Sap.TheVariants.{Absent, Present}
-use Rattle.fdl.specs.declared.reading.Classed.{Classed}
+use Rattle.fdl.specs.Sap.{Sap}
+use Rattle.fdl.specs.declared.reading.Classed as declared-classed
 use Rattle.fdl.specs.declared.reading.Classed.TheVariants as classed
-use Rattle.fdl.specs.declared.reading.Extension.{Extension}
-use Rattle.fdl.specs.declared.reading.Extension.TheVariants as extension
-use Rattle.fdl.specs.declared.reading.Reading.{Reading}
-use Rattle.fdl.specs.declared.reading.Reading.TheVariants.{Confirmation, Token, Telegram, Refused}
+use Rattle.fdl.specs.declared.reading.Reading as declared-reading
+use Rattle.fdl.specs.declared.reading.Reading.TheVariants.{Confirmation, Token, Telegram}
+
+-- a reading with the class of a telegram's function code
+abbrev pub Classed : Type 0
+Classed = Result declared-classed.Classed ℕ
+
+-- what an address byte says of its access point, or a refusal's number
+abbrev pub Extension : Type 0
+Extension = Result Sap ℕ
+
+-- what reading answers: what the bytes are, or a refusal's number
+abbrev pub Reading : Type 0
+Reading = Result declared-reading.Reading ℕ
 
 abbrev pub refused : ℕ → Reading
-refused k = Refused (record { number = k })
+refused k = Err k
 
 abbrev pub bad_extension : Extension
-bad_extension = extension.Refused (record { number = 9 })
+bad_extension = Err 9
 
 -- ---- 9: the access points, of a telegram s whose DA stands at `at`
 
 -- the access point of an address byte, where len bytes of the PDU are left, from start
 unfoldable pub extension_of : List ℕ → (address start len : ℕ) → Extension
 extension_of s address start len =
-    pick (ltb address 128) (extension.Is Absent)
+    pick (ltb address 128) (Ok None)
     (pick (eqb len 0) bad_extension
-    (pick (ltb 63 (get_or s start 0)) bad_extension (extension.Is (Present (get_or s start 0)))))
+    (pick (ltb 63 (get_or s start 0)) bad_extension (Ok (Some (get_or s start 0)))))
 
 -- SA's access point, and then the user data are what is left
 abbrev pub with_source : Extension → Format → (da sa fc : ℕ) → Sap → (start len : ℕ) → Reading
-with_source (extension.Refused r) f da sa fc dsap start len = Refused r
-with_source (extension.Is ssap) f da sa fc dsap start len =
-    Telegram f (record { da = da % 128; sa = sa % 128; fc = fc; dsap = dsap; ssap = ssap }) (start + sap_length ssap) (len - sap_length ssap)
+with_source (Err r) f da sa fc dsap start len = Err r
+with_source (Ok ssap) f da sa fc dsap start len =
+    Ok (Telegram f (record { da = da % 128; sa = sa % 128; fc = fc; dsap = dsap; ssap = ssap }) (start + sap_length ssap) (len - sap_length ssap))
 
 unfoldable pub source_of : List ℕ → Format → (at : ℕ) → Sap → (start len : ℕ) → Reading
 source_of s f at dsap start len =
@@ -43,8 +52,8 @@ source_of s f at dsap start len =
 
 -- DA's access point comes first
 abbrev pub with_destination : Extension → List ℕ → Format → (at pdu : ℕ) → Reading
-with_destination (extension.Refused r) s f at pdu = Refused r
-with_destination (extension.Is dsap) s f at pdu = source_of s f at dsap (at + 3 + sap_length dsap) (pdu - sap_length dsap)
+with_destination (Err r) s f at pdu = Err r
+with_destination (Ok dsap) s f at pdu = source_of s f at dsap (at + 3 + sap_length dsap) (pdu - sap_length dsap)
 
 unfoldable pub destination_of : List ℕ → Format → (at pdu : ℕ) → Reading
 destination_of s f at pdu = with_destination (extension_of s (get_or s at 0) (at + 3) pdu) s f at pdu
@@ -56,7 +65,7 @@ token_of s =
     pick (ltb (length s) 3) (refused 1)
     (pick (ltb 3 (length s)) (refused 4)
     (pick (ltb 126 (get_or s 1 0)) (refused 7)
-    (pick (ltb 126 (get_or s 2 0)) (refused 7) (Token (get_or s 1 0) (get_or s 2 0)))))
+    (pick (ltb 126 (get_or s 2 0)) (refused 7) (Ok (Token (get_or s 1 0) (get_or s 2 0))))))
 
 -- ---- SD2: LE counts the bytes of DA through the PDU, and says at most this
 
@@ -96,7 +105,7 @@ module _ (classes : ℕ → Class) where
       (pick (eqb b (start_byte Sd2)) (sd2_of s)
       (pick (eqb b (start_byte Sd3)) (framed_of s Sd3 1 8)
       (pick (eqb b token_byte) (token_of s)
-      (pick (eqb b confirmation_byte) (pick (eqb (length s) 1) Confirmation (refused 4)) (refused 2)))))
+      (pick (eqb b confirmation_byte) (pick (eqb (length s) 1) (Ok Confirmation) (refused 4)) (refused 2)))))
 
   unfoldable pub read_by : List ℕ → Reading
   read_by s = pick (eqb (length s) 0) (refused 1) (start_of (get_or s 0 0) s)
@@ -109,10 +118,10 @@ read_of s = read_by class_of s
 
 -- by any classes: all else is as it is
 abbrev pub classed_by : (classes : ℕ → Class) → Reading → Classed
-classed_by classes Confirmation = classed.Confirmation
-classed_by classes (Token da sa) = classed.Token da sa
-classed_by classes (Telegram f h start len) = classed.Telegram f h start len (classes h.fc)
-classed_by classes (Refused r) = classed.Refused r
+classed_by classes (Ok Confirmation) = Ok classed.Confirmation
+classed_by classes (Ok (Token da sa)) = Ok (classed.Token da sa)
+classed_by classes (Ok (Telegram f h start len)) = Ok (classed.Telegram f h start len (classes h.fc))
+classed_by classes (Err r) = Err r
 
 -- by one that is known already
 abbrev pub with_class : Class → Reading → Classed

@@ -1,9 +1,8 @@
 -- What reading and writing a telegram share.
-use Rattle.std.specs.Prelude.{ℕ, ◌+◌, ◌%◌, List, [], ◌∷◌}
+use Rattle.std.specs.Prelude.{ℕ, ◌+◌, ◌%◌, List, [], ◌∷◌, Some, None}
 use Rattle.fdl.specs.declared.telegram.Format.{Format}
 use Rattle.fdl.specs.declared.telegram.Format.TheVariants.{Sd1, Sd2, Sd3}
-use Rattle.fdl.specs.declared.telegram.Sap.{Sap}
-use Rattle.fdl.specs.declared.telegram.Sap.TheVariants.{Absent, Present}
+use Rattle.fdl.specs.Sap.{Sap}
 
 -- ---- the start bytes
 
@@ -32,5 +31,5 @@ checksum_of core = sum_of core % 256
 
 -- how many bytes of the PDU an access point takes
 abbrev pub sap_length : Sap → ℕ
-sap_length Absent = 0
-sap_length (Present x) = 1
+sap_length None = 0
+sap_length (Some x) = 1

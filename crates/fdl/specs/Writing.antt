@@ -1,5 +1,5 @@
 -- Writing a telegram (document 01, "Telegram layouts"): its bytes from its fields, and which fields may be written.
-use Rattle.std.specs.Prelude.{ℕ, ◌+◌, ◌*◌, Bool, true, not, List, [], ◌∷◌, ◌++◌, length, eqb, leb}
+use Rattle.std.specs.Prelude.{ℕ, ◌+◌, ◌*◌, Bool, true, not, List, [], ◌∷◌, ◌++◌, length, eqb, leb, Some, None}
 use Rattle.octets.specs.Choice.{pick, ◌and◌}
 use Rattle.octets.specs.Front.{Verdict, fine, fault}
 use Rattle.function_code.specs.Code.{class_of, is_reserved}
@@ -8,8 +8,7 @@ use Rattle.function_code.specs.declared.code.Class.{Class}
 use Rattle.fdl.specs.declared.telegram.Format.{Format}
 use Rattle.fdl.specs.declared.telegram.Format.TheVariants.{Sd1, Sd2, Sd3}
 use Rattle.fdl.specs.declared.telegram.Header.{Header}
-use Rattle.fdl.specs.declared.telegram.Sap.{Sap}
-use Rattle.fdl.specs.declared.telegram.Sap.TheVariants.{Absent, Present}
+use Rattle.fdl.specs.Sap.{Sap}
 
 -- ---- the bytes
 
@@ -20,8 +19,8 @@ start_bytes Sd2 le = start_byte Sd2 ∷ le ∷ le ∷ start_byte Sd2 ∷ []
 start_bytes Sd3 le = start_byte Sd3 ∷ []
 
 abbrev pub sap_bytes : Sap → List ℕ
-sap_bytes Absent = []
-sap_bytes (Present x) = x ∷ []
+sap_bytes None = []
+sap_bytes (Some x) = x ∷ []
 
 -- DA, SA and FC: bit 7 of an address is the presence of its access point
 abbrev pub address_bytes : Header → List ℕ
@@ -53,8 +52,8 @@ confirmation_bytes = confirmation_byte ∷ []
 -- ---- the fields that may be written: any other gives 12
 
 abbrev pub good_sap : Sap → Bool
-good_sap Absent = true
-good_sap (Present x) = leb x 63
+good_sap None = true
+good_sap (Some x) = leb x 63
 
 -- the PDU's length
 abbrev pub pdu_length : Header → (user : List ℕ) → ℕ

@@ -5,5 +5,5 @@
 mod reading;
 mod telegram;
 
-pub use reading::{Classed, Extension, Reading};
+pub use reading::{Classed, Reading};
 pub use telegram::{Format, Header, SC, SD1, SD2, SD3, SD4, Sap, checksum, sap_length};

@@ -1,7 +1,6 @@
 // What reading a telegram answers.
 use crate::telegram::{Format, Header, Sap};
 use function_code::Class;
-use octets::Refusal;
 
 // What bytes are. The user data of a telegram are the len bytes from start, which `octets::part`
 // hands back.
@@ -18,7 +17,6 @@ pub enum Reading {
         start: usize,
         len: usize,
     },
-    Refused(Refusal),
 }
 
 // A reading, with the class of a telegram's function code. Reading has to look it up, to refuse what is reserved; who
@@ -37,12 +35,4 @@ pub enum Classed {
         len: usize,
         class: Class,
     },
-    Refused(Refusal),
-}
-
-// What an address byte says of its access point.
-#[derive(Drop)]
-pub enum Extension {
-    Is(Sap),
-    Refused(Refusal),
 }

@@ -14,7 +14,7 @@ pub const SD4: u8 = 0xDC;
 pub const SC: u8 = 0xE5;
 
 // The start byte's format of a telegram with fields.
-#[derive(Clone, Copy)]
+#[derive(Clone, Copy, PartialEq, Eq)]
 pub enum Format {
     Sd1,
     Sd2,
@@ -22,11 +22,7 @@ pub enum Format {
 }
 
 // A service access point (SAP), where the address has the bit that says that one follows.
-#[derive(Clone, Copy)]
-pub enum Sap {
-    Absent,
-    Present(u8),
-}
+pub type Sap = Option<u8>;
 
 // Addresses are the low seven bits; bit 7 is the presence of the access point.
 #[derive(Clone, Copy)]
@@ -43,8 +39,8 @@ pub fn sap_length(sap: Sap) -> usize
     ensures { result ≡ sap_length sap }
 {
     match sap {
-        Sap::Absent => 0,
-        Sap::Present(_) => 1,
+        None => 0,
+        Some(_) => 1,
     }
 }
 
@@ -52,11 +48,9 @@ pub fn sap_length(sap: Sap) -> usize
 pub fn checksum(part: &[u8]) -> u8
     ensures { result ≡ checksum_of part.now }
 {
-    let mut sum: u16 = 0;
-    let mut i = 0;
-    while i < part.len() {
-        sum = (sum + part[i] as u16) % 256;
-        i += 1;
+    let mut sum: u8 = 0;
+    for &byte in part {
+        sum = sum.wrapping_add(byte);
     }
-    sum as u8
+    sum
 }

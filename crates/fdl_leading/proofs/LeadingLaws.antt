@@ -1,15 +1,13 @@
 -- What the bytes in front of DA say: which format stands there and how long its PDU is, or which telegram without a frame it is, or
 -- the first fault. What is read by them is what `fdl` reads.
-use Rattle.std.specs.Prelude.{ℕ, ◌-◌, ◌≡◌, refl, Bool, true, false, not, List, length, get_or, eqb, ltb}
+use Rattle.std.specs.Prelude.{ℕ, ◌≡◌, refl, Bool, true, false, not, List, length, get_or, eqb, ltb}
 use Rattle.std.proofs.Common.{arith, ltb-false}
 use Rattle.octets.specs.Choice.{pick}
 use Rattle.function_code.specs.Code.{class_of}
 use Rattle.fdl.specs.Telegram.{start_byte, token_byte, confirmation_byte}
-use Rattle.fdl.specs.Reading.{most_le, sd2_of, read_by, read_of}
+use Rattle.fdl.specs.Reading.{most_le, sd2_of, read_by, read_of, Reading}
 use Rattle.fdl.specs.declared.telegram.Format.TheVariants.{Sd1, Sd2, Sd3}
-use Rattle.fdl.specs.declared.reading.Reading.{Reading}
-use Rattle.fdl_leading.specs.declared.Leading.{Leading}
-use Rattle.fdl_leading.specs.Leading.{sd2_leading, leading_of, Leads}
+use Rattle.fdl_leading.specs.Leading.{Leading, sd2_leading, leading_of, Leads}
 
 -- the same test on both sides
 both : (P : Reading → Leading → Type 0) (b : Bool) {r q : Reading} {l m : Leading} → P r l → (b ≡ false → P q m) → P (pick b r q) (pick b l m)

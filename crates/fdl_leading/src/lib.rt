@@ -2,6 +2,7 @@
 #![tactic(auto)]
 
 ghost use Rattle.std.specs.Prelude.{◌≡◌};
+ghost use Rattle.octets.specs.Refusals.{told};
 ghost use Rattle.fdl_leading.specs.Leading.{sd2_leading, leading_of};
 
 use fdl::Format;
@@ -14,61 +15,60 @@ pub enum Leading {
     Framed { format: Format, pdu: u8 },
     Token,
     Confirmation,
-    Refused(Refusal),
 }
 
 // The four leading bytes of SD2.
-fn sd2(s: &[u8]) -> Leading
-    ensures { result ≡ sd2_leading s.now }
+fn sd2(s: &[u8]) -> Result<Leading, Refusal>
+    ensures { told result ≡ sd2_leading s.now }
 {
     if s.len() < 4 {
-        return Leading::Refused(Refusal { number: 1 });
+        return Err(Refusal::EndsEarly);
     }
     let le = s[1];
     if le < 4 {
-        return Leading::Refused(Refusal { number: 3 });
+        return Err(Refusal::LengthBytes);
     }
     if 249 < le {
-        return Leading::Refused(Refusal { number: 3 });
+        return Err(Refusal::LengthBytes);
     }
     if s[2] != le {
-        return Leading::Refused(Refusal { number: 3 });
+        return Err(Refusal::LengthBytes);
     }
     if s[3] != fdl::SD2 {
-        return Leading::Refused(Refusal { number: 3 });
+        return Err(Refusal::LengthBytes);
     }
-    Leading::Framed {
+    Ok(Leading::Framed {
         format: Format::Sd2,
         pdu: le - 3,
-    }
+    })
 }
 
 // What the bytes in front of DA say.
-pub fn leading_bytes(s: &[u8]) -> Leading
-    ensures { result ≡ leading_of s.now }
+pub fn leading_bytes(s: &[u8]) -> Result<Leading, Refusal>
+    ensures { told result ≡ leading_of s.now }
 {
     if s.len() == 0 {
-        return Leading::Refused(Refusal { number: 1 });
+        return Err(Refusal::EndsEarly);
     }
     let start = s[0];
     match start {
-        fdl::SD1 => Leading::Framed {
+        fdl::SD1 => Ok(Leading::Framed {
             format: Format::Sd1,
             pdu: 0,
-        },
+        }),
         fdl::SD2 => sd2(s),
-        fdl::SD3 => Leading::Framed {
+        fdl::SD3 => Ok(Leading::Framed {
             format: Format::Sd3,
             pdu: 8,
-        },
-        fdl::SD4 => Leading::Token,
+        }),
+        fdl::SD4 => Ok(Leading::Token),
         fdl::SC => {
             if s.len() == 1 {
-                Leading::Confirmation
+                Ok(Leading::Confirmation)
             } else {
-                Leading::Refused(Refusal { number: 4 })
+                Err(Refusal::BytesFollow)
             }
         }
-        _ => Leading::Refused(Refusal { number: 2 }),
+        _ => Err(Refusal::NoStartByte),
     }
 }

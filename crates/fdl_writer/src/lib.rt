@@ -3,6 +3,7 @@
 #![tactic(auto)]
 
 ghost use Rattle.std.specs.Prelude.{◌≡◌, ◌++◌, ◌∷◌, [], ◌+◌, ◌≤◌, length, take, drop};
+ghost use Rattle.octets.specs.Refusals.{told};
 ghost use Rattle.octets.specs.Front.{AtFront, answer_by, held_by};
 ghost use Rattle.fdl.specs.Telegram.{sum_of, checksum_of};
 ghost use Rattle.fdl.specs.Writing.{start_bytes, sap_bytes, address_bytes, core_of, closed_of, telegram_of, user_start, verdict_of};
@@ -10,7 +11,7 @@ ghost use Rattle.fdl.specs.Around.{user_in, head_bytes};
 
 use fdl::{Format, Header, Sap, checksum, sap_length};
 use framing::{user_start, writable};
-use octets::Written;
+use octets::Refusal;
 
 // LE: how many bytes stand from DA to the last of the user data.
 fn length_byte(header: Header, len: usize) -> u8
@@ -64,8 +65,8 @@ fn put_sap(sap: Sap, out: &mut [u8]) -> usize
     ensures { AtFront (sap_bytes sap) out.old out.new result }
 {
     match sap {
-        Sap::Absent => 0,
-        Sap::Present(number) => {
+        None => 0,
+        Some(number) => {
             out[0] = number;
             1
         }
@@ -95,8 +96,8 @@ fn sap_sum(sap: Sap) -> u8
     ensures { result ≡ sum_of (sap_bytes sap) }
 {
     match sap {
-        Sap::Absent => 0,
-        Sap::Present(number) => number,
+        None => 0,
+        Some(number) => number,
     }
 }
 
@@ -146,36 +147,41 @@ fn put_around(format: Format, header: Header, sum: u8, len: usize, out: &mut [u8
 }
 
 // Writes a telegram from its fields and user data.
-pub fn write(format: Format, header: Header, user: &[u8], out: &mut [u8]) -> Written
-    ensures answer { result ≡ answer_by (verdict_of format header user.now) (telegram_of format header user.now) (length out.old) }
+pub fn write(format: Format, header: Header, user: &[u8], out: &mut [u8]) -> Result<usize, Refusal>
+    ensures answer { told result ≡ answer_by (verdict_of format header user.now) (telegram_of format header user.now) (length out.old) }
     ensures bytes { out.new ≡ held_by (verdict_of format header user.now) (telegram_of format header user.now) out.old }
 {
     let len = user.len();
     if !writable(format, header, len) {
-        return Written::Refused(12);
+        return Err(Refusal::Field);
     }
     let start = user_start(format, header);
     if out.len() < start + len + 2 {
-        return Written::Refused(11);
+        return Err(Refusal::NoRoom);
     }
     let sum = checksum(user);
     octets::store_behind(start, user, out);
-    Written::Stored(put_around(format, header, sum, len, out))
+    Ok(put_around(format, header, sum, len, out))
 }
 
 // Writes a telegram around len bytes of user data that the caller has put into out from
 // `user_start` on. They are not copied, and stay where they are.
-pub fn write_around(format: Format, header: Header, len: usize, out: &mut [u8]) -> Written
-    ensures answer { result ≡ answer_by (verdict_of format header (user_in format header len out.old)) (telegram_of format header (user_in format header len out.old)) (length out.old) }
+pub fn write_around(
+    format: Format,
+    header: Header,
+    len: usize,
+    out: &mut [u8],
+) -> Result<usize, Refusal>
+    ensures answer { told result ≡ answer_by (verdict_of format header (user_in format header len out.old)) (telegram_of format header (user_in format header len out.old)) (length out.old) }
     ensures bytes { out.new ≡ held_by (verdict_of format header (user_in format header len out.old)) (telegram_of format header (user_in format header len out.old)) out.old }
 {
     if !writable(format, header, len) {
-        return Written::Refused(12);
+        return Err(Refusal::Field);
     }
     let place = user_start(format, header);
     if out.len() < place + len + 2 {
-        return Written::Refused(11);
+        return Err(Refusal::NoRoom);
     }
     let sum = checksum(&out[place..place + len]);
-    Written::Stored(put_around(format, header, sum, len, out))
+    Ok(put_around(format, header, sum, len, out))
 }

@@ -1,12 +1,11 @@
 -- A telegram's kind and its number name each other, and what an answer of 0 says of a writer.
-use Rattle.std.specs.Prelude.{ℕ, ◌≡◌, refl, Bool, true, false, List, length, drop, eqb, leb}
+use Rattle.std.specs.Prelude.{ℕ, ◌≡◌, refl, Bool, true, false, List, length, drop, eqb, leb, Ok, Err}
 use Rattle.std.proofs.Common.{arith, eqb-true}
 use Rattle.std.proofs.Math.Seq.{take-append_seam}
 use Rattle.std.proofs.lemmas.Bool.{eqb-false}
 use Rattle.octets.specs.Choice.{pick}
 use Rattle.octets.proofs.Choice.{by_pick}
 use Rattle.octets.specs.Front.{Verdict, fine, fault, over, answer_by, held_by}
-use Rattle.octets.specs.declared.Written.TheVariants.{Stored, Refused}
 use Rattle.fdl.specs.declared.telegram.Format.{Format}
 use Rattle.fdl.specs.declared.telegram.Format.TheVariants.{Sd1, Sd2, Sd3}
 use Rattle.fields.specs.Kinds.{format_number, kind_of, Numbered}
@@ -48,7 +47,7 @@ unfolding answer_by held_by
 zero_stored (fault k) t out count n e = absurd (n e)
 zero_stored fine t out count n e = (refl, room (leb (length t) (length out)) e)
   where
-    room : (b : Bool) → status_of (pick b (Stored (length t)) (Refused 11)) ≡ 0
-        → stored_by (pick b (Stored (length t)) (Refused 11)) count (pick b (over t out) out) ≡ t
+    room : (b : Bool) → status_of (pick b (Ok (length t)) (Err 11)) ≡ 0
+        → stored_by (pick b (Ok (length t)) (Err 11)) count (pick b (over t out) out) ≡ t
     room true z = take-append_seam t (drop (length t) out)
     room false z = absurd (omega arith)

@@ -1,16 +1,14 @@
 -- What every writer of the C interface answers: its answer as a number, and what the lent count holds then.
-use Rattle.std.specs.Prelude.{ℕ, ◌≡◌, List, take}
-use Rattle.octets.specs.Front.{Verdict, fine, fault}
-use Rattle.octets.specs.declared.Written.{Written}
-use Rattle.octets.specs.declared.Written.TheVariants.{Stored, Refused}
+use Rattle.std.specs.Prelude.{ℕ, ◌≡◌, List, take, Ok, Err}
+use Rattle.octets.specs.Front.{Verdict, fine, fault, Written}
 
 abbrev pub status_of : Written → ℕ
-status_of (Stored n) = 0
-status_of (Refused k) = k
+status_of (Ok n) = 0
+status_of (Err k) = k
 
 abbrev pub count_after : Written → (before : ℕ) → ℕ
-count_after (Stored n) before = n
-count_after (Refused k) before = before
+count_after (Ok n) before = n
+count_after (Err k) before = before
 
 -- a verdict that tells its fault by a number, which 0 is not
 abbrev pub Tells : Verdict → Type 0

@@ -1,19 +1,20 @@
 // What every writer of the C interface answers, and the count that it stores.
 ghost use Rattle.std.specs.Prelude.{◌≡◌};
+ghost use Rattle.octets.specs.Refusals.{told};
 ghost use Rattle.fields.specs.Outcome.{status_of, count_after};
 
-use octets::Written;
+use octets::Refusal;
 
 // A writer's answer as a number; where it has stored, the count goes to stored.
-pub fn store_count(written: Written, stored: &mut usize) -> u8
-    ensures refusal { result ≡ status_of written }
-    ensures count { stored.new ≡ count_after written stored.old }
+pub fn store_count(written: Result<usize, Refusal>, stored: &mut usize) -> u8
+    ensures refusal { result ≡ status_of (told written) }
+    ensures count { stored.new ≡ count_after (told written) stored.old }
 {
     match written {
-        Written::Stored(n) => {
+        Ok(n) => {
             *stored = n;
             0
         }
-        Written::Refused(number) => number,
+        Err(refusal) => refusal.number(),
     }
 }

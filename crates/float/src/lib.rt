@@ -13,13 +13,6 @@ pub enum Floating {
     Nan(u32),
 }
 
-// The 32 bits of an `f32`; those of a NaN are unknown.
-#[derive(Drop)]
-pub enum Pattern {
-    Bits(u32),
-    Unknown,
-}
-
 // Without its sign, the pattern of a NaN is above that of infinity.
 pub fn is_nan_pattern(bits: u32) -> bool
     ensures { result ≡ is_nan_pattern bits }
@@ -38,11 +31,11 @@ pub fn floating_of(bits: u32) -> Floating
 }
 
 // The pattern of a number. A NaN alone differs from itself.
-pub fn pattern_of(number: f32) -> Pattern
+pub fn pattern_of(number: f32) -> Option<u32>
     ensures { result ≡ pattern_of number }
 {
     if number != number {
-        return Pattern::Unknown;
+        return None;
     }
-    Pattern::Bits(f32::to_bits(number))
+    Some(f32::to_bits(number))
 }

@@ -3,6 +3,7 @@
 #![tactic(auto)]
 
 ghost use Rattle.std.specs.Prelude.{◌≡◌, ◌+◌, length};
+ghost use Rattle.octets.specs.Refusals.{told};
 ghost use Rattle.octets.specs.Front.{fine, answer_by, held_by};
 ghost use Rattle.function_code.specs.Code.{class_of};
 ghost use Rattle.fdl.specs.Telegram.{sap_length};
@@ -11,14 +12,14 @@ ghost use Rattle.fdl.specs.Around.{good_fields};
 
 use fdl::{Format, Header, Sap, sap_length};
 use function_code::reserved;
-use octets::Written;
+use octets::Refusal;
 
 fn good_sap(sap: Sap) -> bool
     ensures { result ≡ good_sap sap }
 {
     match sap {
-        Sap::Absent => true,
-        Sap::Present(number) => number <= 63,
+        None => true,
+        Some(number) => number <= 63,
     }
 }
 
@@ -107,33 +108,33 @@ pub fn user_start(format: Format, header: Header) -> usize
 }
 
 // Writes a token.
-pub fn write_token(da: u8, sa: u8, out: &mut [u8]) -> Written
-    ensures answer { result ≡ answer_by (token_verdict da sa) (token_bytes da sa) (length out.old) }
+pub fn write_token(da: u8, sa: u8, out: &mut [u8]) -> Result<usize, Refusal>
+    ensures answer { told result ≡ answer_by (token_verdict da sa) (token_bytes da sa) (length out.old) }
     ensures bytes { out.new ≡ held_by (token_verdict da sa) (token_bytes da sa) out.old }
 {
     if 126 < da {
-        return Written::Refused(12);
+        return Err(Refusal::Field);
     }
     if 126 < sa {
-        return Written::Refused(12);
+        return Err(Refusal::Field);
     }
     if out.len() < 3 {
-        return Written::Refused(11);
+        return Err(Refusal::NoRoom);
     }
     out[0] = fdl::SD4;
     out[1] = da;
     out[2] = sa;
-    Written::Stored(3)
+    Ok(3)
 }
 
 // Writes a short confirmation.
-pub fn write_confirmation(out: &mut [u8]) -> Written
-    ensures answer { result ≡ answer_by fine confirmation_bytes (length out.old) }
+pub fn write_confirmation(out: &mut [u8]) -> Result<usize, Refusal>
+    ensures answer { told result ≡ answer_by fine confirmation_bytes (length out.old) }
     ensures bytes { out.new ≡ held_by fine confirmation_bytes out.old }
 {
     if out.len() < 1 {
-        return Written::Refused(11);
+        return Err(Refusal::NoRoom);
     }
     out[0] = fdl::SC;
-    Written::Stored(1)
+    Ok(1)
 }

@@ -23,7 +23,7 @@ class_of fc =
     pick (eqb (fc / 128 % 2) 1) (pick (eqb fc 0xC0) Uncounted Reserved)
     (pick (eqb (fc / 64 % 2) 1) (call_of (fc % 16) (fc / 16 % 2) (fc / 32 % 2)) (answer_of (fc % 16)))
 
--- the number of each class, as the table has it
+-- the number of each class
 abbrev pub class_number : Class → ℕ
 class_number Opening = 0
 class_number Counted = 1
@@ -36,5 +36,5 @@ abbrev pub is_reserved : Class → Bool
 is_reserved c = eqb (class_number c) (class_number Reserved)
 
 -- what a table has at a function code
-pub record Entry (table : List ℕ) (fc n : ℕ) : Type 0 where
-  pub there : n ≡ get_or table fc 0
+pub record Entry (table : List Class) (fc : ℕ) (c : Class) : Type 0 where
+  pub there : c ≡ get_or table fc Reserved

@@ -4,4 +4,5 @@
 mod code;
 mod table;
 
-pub use code::{Class, class_of, reserved};
+pub use code::{Class, reserved};
+pub use table::class_of;

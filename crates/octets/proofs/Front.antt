@@ -1,5 +1,5 @@
 -- Storing at the front of a lent slice, and what every writer answers.
-use Rattle.std.specs.Prelude.{ℕ, ◌+◌, ◌-◌, ◌≤◌, ◌<◌, ◌≡◌, refl, List, ◌++◌, take}
+use Rattle.std.specs.Prelude.{ℕ, ◌+◌, ◌-◌, ◌≤◌, ◌<◌, ◌≡◌, refl, List, ◌++◌, take, Ok, Err}
 use Rattle.std.proofs.Common.{sym, ap, ◌∙◌, append_assoc, append-nil, length-append, length-drop, take-append-drop, length-take-le, drop_at, drop-drop, arith, zero-add}
 use Rattle.std.proofs.Math.Path.{subst}
 use Rattle.std.proofs.Math.Bool.{true}
@@ -9,7 +9,6 @@ use Rattle.std.proofs.Math.Seq.{take-append_seam, drop-append_seam, take-length,
 use Rattle.std.proofs.Math.Dec.{leb}
 use borrow.Rule.Slice.PartMut.{mid_of, put_mid}
 use borrow.Author.Tests.{le-leb, lt-leb}
-use Rattle.octets.specs.declared.Written.TheVariants.{Stored, Refused}
 use Rattle.octets.specs.Front.{count_of, front_of, count_behind, held_behind, AtFront, fine, fault, answer_by, held_by}
 
 -- ---- laws
@@ -47,23 +46,23 @@ at_front {p} {l} c b h =
     record { counted = simp (le-leb _ _ h) at c; bytes = simp (le-leb _ _ h) at b }
 
 -- the outcomes of a writer
-pub too_small : (t l : List ℕ) → length l < length t → (Refused 11 ≡ answer_by fine t (length l)) × (l ≡ held_by fine t l)
+pub too_small : (t l : List ℕ) → length l < length t → (Err 11 ≡ answer_by fine t (length l)) × (l ≡ held_by fine t l)
 unfolding answer_by held_by
 too_small t l h = (simp (lt-leb _ _ h), simp (lt-leb _ _ h))
 
 pub stored : {t l after : List ℕ} {count : ℕ} → length t ≤ length l → AtFront t l after count
-    → (Stored count ≡ answer_by fine t (length l)) × (after ≡ held_by fine t l)
+    → (Ok count ≡ answer_by fine t (length l)) × (after ≡ held_by fine t l)
 unfolding answer_by held_by
-stored h f = (simp (le-leb _ _ h) (ap Stored f.counted), simp (le-leb _ _ h) f.bytes)
+stored h f = (simp (le-leb _ _ h) (ap Ok f.counted), simp (le-leb _ _ h) f.bytes)
 
 -- a bad field stores nothing
-pub refused : (k : ℕ) (t l : List ℕ) → (Refused k ≡ answer_by (fault k) t (length l)) × (l ≡ held_by (fault k) t l)
+pub refused : (k : ℕ) (t l : List ℕ) → (Err k ≡ answer_by (fault k) t (length l)) × (l ≡ held_by (fault k) t l)
 unfolding answer_by held_by
 refused k t l = (refl, refl)
 
 -- ---- two stores, q behind p
 -- a writer that has no room for both
-pub both_too_small : (p q l : List ℕ) → length l < length p + length q → (Refused 11 ≡ answer_by fine (p ++ q) (length l)) × (l ≡ held_by fine (p ++ q) l)
+pub both_too_small : (p q l : List ℕ) → length l < length p + length q → (Err 11 ≡ answer_by fine (p ++ q) (length l)) × (l ≡ held_by fine (p ++ q) l)
 both_too_small p q l h = too_small (p ++ q) l (omega (arith, length-append p q))
 
 -- p fits where both fit
@@ -123,7 +122,7 @@ module _ {p l a : List ℕ} {n : ℕ} (f : AtFront p l a n) where
 
   -- and by a writer that answers so
   pub both_written : (q : List ℕ) {after : List ℕ} {count : ℕ} → count ≡ count_behind n q a → after ≡ held_behind n q a
-      → length p + length q ≤ length l → (Stored count ≡ answer_by fine (p ++ q) (length l)) × (after ≡ held_by fine (p ++ q) l)
+      → length p + length q ≤ length l → (Ok count ≡ answer_by fine (p ++ q) (length l)) × (after ≡ held_by fine (p ++ q) l)
   both_written q c b h =
       let room : length (p ++ q) ≤ length l = omega (arith, length-append p q) in
       stored room (both_stored q c b room)

@@ -1,5 +1,5 @@
 -- Formats of fixed bytes with a lent part behind them: what their reader answers by a verdict on the fields.
-use Rattle.std.specs.Prelude.{ℕ, ◌-◌}
+use Rattle.std.specs.Prelude.{ℕ}
 use Rattle.octets.specs.Front.{Verdict, fine, fault}
 
 -- a reader's answer, where the verdict lets it stand; else its refusal with the verdict's number

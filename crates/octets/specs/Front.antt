@@ -1,10 +1,8 @@
 -- Storing at the front of a lent slice, and what every writer answers.
-use Rattle.std.specs.Prelude.{ℕ, ◌+◌, ◌-◌, ◌≡◌, List, ◌++◌, take}
+use Rattle.std.specs.Prelude.{ℕ, ◌+◌, ◌≡◌, List, ◌++◌, take, Result, Ok, Err}
 use Rattle.std.proofs.Math.ListN.{length, drop}
 use Rattle.std.proofs.Math.Dec.{leb}
 use Rattle.octets.specs.Choice.{pick}
-use Rattle.octets.specs.declared.Written.{Written}
-use Rattle.octets.specs.declared.Written.TheVariants.{Stored, Refused}
 
 -- l with its front replaced by p; the rest stays
 abbrev pub over : (p l : List ℕ) → List ℕ
@@ -34,11 +32,15 @@ pub data Verdict : Type 0 where
   fine : Verdict
   fault : (number : ℕ) → Verdict
 
+-- what a writer answers: how many bytes it stored, or the number of its refusal
+abbrev pub Written : Type 0
+Written = Result ℕ ℕ
+
 -- A writer of the bytes t: its answer at a lent slice of so many bytes, and what that slice holds then. The number of a
 -- bad field comes first, 11 for too small a slice last, and a refusal stores nothing.
 unfoldable pub answer_by : Verdict → (t : List ℕ) (room : ℕ) → Written
-answer_by fine t room = pick (leb (length t) room) (Stored (length t)) (Refused 11)
-answer_by (fault k) t room = Refused k
+answer_by fine t room = pick (leb (length t) room) (Ok (length t)) (Err 11)
+answer_by (fault k) t room = Err k
 
 unfoldable pub held_by : Verdict → (t out : List ℕ) → List ℕ
 held_by fine t out = pick (leb (length t) (length out)) (over t out) out

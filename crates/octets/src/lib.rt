@@ -1,6 +1,9 @@
-// What every format of the library shares: the answers of readers and writers, a test as a byte, numbers
-// high byte first, storing at the front of a lent slice, and handing back a part of one.
+// What every format of the library shares: why something is refused, a test as a byte, numbers high byte
+// first, storing at the front of a lent slice, and handing back a part of one. A reader answers what it read or a
+// refusal; a writer answers how many bytes it stored at the front of the lent slice, or a refusal, with nothing stored.
 #![tactic(auto)]
+
+mod refusal;
 
 ghost use Rattle.std.specs.Prelude.{◌≡◌, ◌≤◌, ◌∷◌, [], ◌++◌, length, take, drop};
 ghost use Rattle.octets.specs.Bits.{bit_of};
@@ -8,32 +11,44 @@ ghost use Rattle.octets.specs.Number.{number_of, bytes_of};
 ghost use Rattle.octets.specs.Front.{count_of, front_of, count_behind, held_behind};
 ghost use Rattle.octets.specs.Part.{part_of};
 
-// Why a reader refuses its bytes: a refusal number of document 01.
-#[derive(Drop)]
-pub struct Refusal {
-    pub number: u8,
-}
-
-// What a writer answers: how many bytes it stored at the front of the lent slice, or the refusal
-// number of document 01, with nothing stored.
-#[derive(Drop)]
-pub enum Written {
-    Stored(usize),
-    Refused(u8),
-}
+pub use refusal::Refusal;
 
 // Which of the two versions of DP the caller speaks.
-#[derive(Clone, Copy)]
+#[derive(Clone, Copy, PartialEq, Eq)]
 pub enum Mode {
     Dpv0,
     Dpv1,
+}
+
+// The fields of a format with user bytes behind them: the fields, and where the len user bytes start, which `part` hands back.
+#[derive(Clone, Copy)]
+pub struct Read<T> {
+    pub fields: T,
+    pub start: usize,
+    pub len: usize,
+}
+
+impl<T> Read<T> {
+    // The same bytes, whose fields are part of more.
+    pub fn map<U, F: FnOnce(T) -> U>(self, within: F) -> Read<U>
+        requires { F.IsAlwaysCallable within }
+        ensures fields { F.post within self.fields result.fields }
+        ensures bytes { (result.start ≡ self.start) × (result.len ≡ self.len) }
+    {
+        let Read { fields, start, len } = self;
+        Read {
+            fields: within(fields),
+            start,
+            len,
+        }
+    }
 }
 
 // A test as a byte.
 pub fn bit_of(test: bool) -> u8
     ensures { result ≡ bit_of test }
 {
-    if test { 1 } else { 0 }
+    u8::from(test)
 }
 
 // The number of two bytes, high byte first.
@@ -87,8 +102,8 @@ fn copy(source: &[u8], out: &mut [u8]) -> usize
     ensures count { result ≡ length source.now }
     ensures bytes { out.new ≡ take (length source.now) source.now ++ drop (length source.now) out.old }
 {
-    for i in 0..source.len() {
-        out[i] = source[i];
+    for (i, byte) in source.iter().enumerate() {
+        out[i] = *byte;
     }
     source.len()
 }

@@ -12,9 +12,8 @@ use Rattle.octets.proofs.Fixed.{by_verdict, passed}
 use Rattle.octets.specs.declared.Mode.{Mode}
 use Rattle.octets.specs.declared.Mode.TheVariants as mode
 use Rattle.parameters.specs.Fields.{fixed_length, good_flags, good_status1, good_status2, good_status3, extension_verdict, verdict_of}
-use Rattle.parameters.specs.Reading.{extension_in, fields_in, read_of}
+use Rattle.parameters.specs.Reading.{extension_in, fields_in, read_of, Reading}
 use Rattle.parameters.specs.declared.fields.Extension.{Extension}
-use Rattle.parameters.specs.declared.reading.Reading.{Reading}
 use Rattle.parameters.specs.Accepted.{accepted, BasicBytes, StatusBytes, ParameterBytes}
 
 -- ---- from the verdict, and back to it

@@ -1,22 +1,20 @@
 -- Every refusal of parameters, read or to be written, has a number of document 01's table.
-use Rattle.std.specs.Prelude.{ℕ, ◌≡◌, refl, true, List}
+use Rattle.std.specs.Prelude.{ℕ, ◌≡◌, refl, true, List, Ok, Err}
 use Rattle.octets.proofs.Choice.{through, alike}
 use Rattle.octets.specs.Front.{Verdict, fine, fault}
 use Rattle.octets.specs.Refusals.{listed, numbered}
 use Rattle.octets.proofs.Refusals.{judged_numbered}
 use Rattle.octets.specs.declared.Mode.{Mode}
 use Rattle.parameters.specs.Fields.{extension_verdict, verdict_of}
-use Rattle.parameters.specs.Reading.{refused, read_of}
+use Rattle.parameters.specs.Reading.{refused, read_of, Reading}
 use Rattle.parameters.specs.declared.fields.Extension.{Extension}
 use Rattle.parameters.specs.declared.fields.Extension.TheVariants.{Dpv0, Dpv1}
 use Rattle.parameters.specs.declared.fields.Parameters.{Parameters}
-use Rattle.parameters.specs.declared.reading.Reading.{Reading}
-use Rattle.parameters.specs.declared.reading.Reading.TheVariants as reading
 
 -- the verdict that a reading came to
 abbrev pub verdict_in : Reading → Verdict
-verdict_in (reading.Parameters f start len) = fine
-verdict_in (reading.Refused r) = fault r.number
+verdict_in (Ok found) = fine
+verdict_in (Err r) = fault r
 
 extension_numbered : (e : Extension) → numbered (extension_verdict e) ≡ true
 unfolding extension_verdict listed

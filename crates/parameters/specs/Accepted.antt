@@ -1,16 +1,15 @@
 -- Which bytes are parameters (document 01, "Parameters"), in plain arithmetic. Document 01 counts bytes from 1.
 use Prim.Native.Nat.{ℕ, ◌/◌, ◌%◌, ◌≤◌}
-use Rattle.std.specs.Prelude.{◌≡◌, Bool, false, List, length}
+use Rattle.std.specs.Prelude.{◌≡◌, Bool, false, List, length, Ok, Err}
 use Rattle.std.proofs.Math.Bool.{true}
 use Rattle.std.proofs.Math.ListN.{get_or}
 use Rattle.octets.specs.declared.Mode.{Mode}
 use Rattle.octets.specs.declared.Mode.TheVariants as mode
-use Rattle.parameters.specs.declared.reading.Reading.{Reading}
-use Rattle.parameters.specs.declared.reading.Reading.TheVariants as reading
+use Rattle.parameters.specs.Reading.{Reading}
 
 abbrev pub accepted : Reading → Bool
-accepted (reading.Parameters f start len) = true
-accepted (reading.Refused r) = false
+accepted (Ok found) = true
+accepted (Err r) = false
 
 -- what every version asks: 7 to 244 bytes, bits 0..2 of byte 1 are 0, byte 4 is 11 or more
 pub record BasicBytes (s : List ℕ) : Type 0 where

@@ -1,5 +1,5 @@
 -- Reading parameters (document 01, "Parameters"): 20 for the length, then the verdict on the fields, byte by byte.
-use Rattle.std.specs.Prelude.{ℕ, ◌-◌, List, [], ◌∷◌, length, get_or, ltb}
+use Rattle.std.specs.Prelude.{ℕ, ◌-◌, List, [], ◌∷◌, length, get_or, ltb, Ok, Err, Result}
 use Rattle.octets.specs.Choice.{pick}
 use Rattle.octets.specs.Number.{number_of}
 use Rattle.octets.specs.Fixed.{judged}
@@ -9,11 +9,14 @@ use Rattle.parameters.specs.Fields.{fixed_length, extension_verdict, verdict_of}
 use Rattle.parameters.specs.declared.fields.Extension.{Extension}
 use Rattle.parameters.specs.declared.fields.Extension.TheVariants.{Dpv0, Dpv1}
 use Rattle.parameters.specs.declared.fields.Parameters.{Parameters}
-use Rattle.parameters.specs.declared.reading.Reading.{Reading}
-use Rattle.parameters.specs.declared.reading.Reading.TheVariants as reading
+use Rattle.octets.specs.declared.Read.{Read}
+
+-- what reading answers: the fields and where the user bytes stand, or a refusal's number
+abbrev pub Reading : Type 0
+Reading = Result (Read Parameters) ℕ
 
 abbrev pub refused : ℕ → Reading
-refused k = reading.Refused (record { number = k })
+refused k = Err k
 
 -- ---- the fields
 
@@ -35,7 +38,7 @@ fields_in s e =
 
 -- the answer for them, with the user bytes from start
 abbrev pub answer_in : List ℕ → Extension → (start : ℕ) → Reading
-answer_in s e start = reading.Parameters (fields_in s e) start (length s - start)
+answer_in s e start = Ok (record { fields = fields_in s e; start = start; len = length s - start })
 
 -- ---- the rules
 

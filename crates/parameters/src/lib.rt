@@ -3,12 +3,10 @@
 #![tactic(auto)]
 
 mod fields;
-mod reading;
 mod timing;
 
 pub use fields::{
     BitTimes, Extension, Milliseconds, Parameters, fixed_length, good_flags, good_response,
     good_status1, good_status2, good_status3,
 };
-pub use reading::Reading;
 pub use timing::{expired, watchdog};

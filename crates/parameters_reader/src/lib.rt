@@ -2,18 +2,19 @@
 #![tactic(auto)]
 
 ghost use Rattle.std.specs.Prelude.{◌≡◌, ◌≤◌, length};
+ghost use Rattle.octets.specs.Refusals.{told};
 ghost use Rattle.parameters.specs.Reading.{answer_in, extension_of, read_of};
 
-use octets::{Mode, Refusal};
+use octets::{Mode, Read, Refusal};
 use parameters::{
-    BitTimes, Extension, Parameters, Reading, fixed_length, good_flags, good_response,
-    good_status1, good_status2, good_status3,
+    BitTimes, Extension, Parameters, fixed_length, good_flags, good_response, good_status1,
+    good_status2, good_status3,
 };
 
 // The answer when no byte is left to refuse: the user bytes begin at start.
-fn answer(bytes: &[u8], extension: Extension, start: usize) -> Reading
+fn answer(bytes: &[u8], extension: Extension, start: usize) -> Result<Read<Parameters>, Refusal>
     requires { (7 ≤ start) × (start ≤ length bytes.now) }
-    ensures { result ≡ answer_in bytes.now extension start }
+    ensures { told result ≡ answer_in bytes.now extension start }
 {
     let response = BitTimes(bytes[3]);
     let fields = Parameters {
@@ -25,29 +26,30 @@ fn answer(bytes: &[u8], extension: Extension, start: usize) -> Reading
         groups: bytes[6],
         extension,
     };
-    Reading::Parameters {
+    Ok(Read {
         fields,
         start,
         len: bytes.len() - start,
-    }
+    })
 }
 
 // The status bytes of DPV1.
-fn dpv1(bytes: &[u8]) -> Reading
+#[tactic(auto, unfolding(parameters::specs::Fields::extension_verdict, parameters::specs::Reading::extension_of))]
+fn dpv1(bytes: &[u8]) -> Result<Read<Parameters>, Refusal>
     requires { 10 ≤ length bytes.now }
-    ensures { result ≡ extension_of bytes.now Mode.Dpv1 }
+    ensures { told result ≡ extension_of bytes.now Mode.Dpv1 }
 {
     let status1 = bytes[7];
     if !good_status1(status1) {
-        return Reading::Refused(Refusal { number: 21 });
+        return Err(Refusal::DataByte);
     }
     let status2 = bytes[8];
     if !good_status2(status2) {
-        return Reading::Refused(Refusal { number: 21 });
+        return Err(Refusal::DataByte);
     }
     let status3 = bytes[9];
     if !good_status3(status3) {
-        return Reading::Refused(Refusal { number: 21 });
+        return Err(Refusal::DataByte);
     }
     let extension = Extension::Dpv1 {
         status1,
@@ -58,20 +60,21 @@ fn dpv1(bytes: &[u8]) -> Reading
 }
 
 // Reads parameters: all of the lent slice, in the version that the caller speaks.
-pub fn read(bytes: &[u8], mode: Mode) -> Reading
-    ensures { result ≡ read_of bytes.now mode }
+#[tactic(auto, unfolding(parameters::specs::Fields::extension_verdict, parameters::specs::Fields::verdict_of, parameters::specs::Reading::extension_of, parameters::specs::Reading::read_of))]
+pub fn read(bytes: &[u8], mode: Mode) -> Result<Read<Parameters>, Refusal>
+    ensures { told result ≡ read_of bytes.now mode }
 {
     if bytes.len() < fixed_length(mode) {
-        return Reading::Refused(Refusal { number: 20 });
+        return Err(Refusal::DataLength);
     }
     if 244 < bytes.len() {
-        return Reading::Refused(Refusal { number: 20 });
+        return Err(Refusal::DataLength);
     }
     if !good_flags(bytes[0]) {
-        return Reading::Refused(Refusal { number: 21 });
+        return Err(Refusal::DataByte);
     }
     if !good_response(BitTimes(bytes[3])) {
-        return Reading::Refused(Refusal { number: 21 });
+        return Err(Refusal::DataByte);
     }
     match mode {
         Mode::Dpv0 => answer(bytes, Extension::Dpv0, 7),

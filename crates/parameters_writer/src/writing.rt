@@ -1,10 +1,11 @@
 // Writing parameters at the front of a lent slice.
 ghost use Rattle.std.specs.Prelude.{◌≡◌, ◌≤◌, length};
+ghost use Rattle.octets.specs.Refusals.{told};
 ghost use Rattle.octets.specs.Front.{AtFront, answer_by, held_by};
 ghost use Rattle.parameters.specs.Fields.{mode_of};
 ghost use Rattle.parameters.specs.Writing.{front_bytes, bytes_for, user_start, good_extension, verdict_for};
 
-use octets::{Mode, Written};
+use octets::{Mode, Refusal};
 use parameters::{
     Extension, Parameters, fixed_length, good_flags, good_response, good_status1, good_status2,
     good_status3,
@@ -84,27 +85,28 @@ fn put(fields: Parameters, user: &[u8], out: &mut [u8]) -> usize
 }
 
 // Writes parameters from their fields and user bytes, in the version that their extension is of.
-pub fn write(fields: Parameters, user: &[u8], out: &mut [u8]) -> Written
-    ensures answer { result ≡ answer_by (verdict_for fields user.now) (bytes_for fields user.now) (length out.old) }
+#[tactic(auto, unfolding(parameters::specs::Fields::verdict_of, octets::specs::Front::answer_by, octets::specs::Front::held_by))]
+pub fn write(fields: Parameters, user: &[u8], out: &mut [u8]) -> Result<usize, Refusal>
+    ensures answer { told result ≡ answer_by (verdict_for fields user.now) (bytes_for fields user.now) (length out.old) }
     ensures bytes { out.new ≡ held_by (verdict_for fields user.now) (bytes_for fields user.now) out.old }
 {
     let extension = fields.extension;
     let size = fixed_length(mode_of(extension)) + user.len();
     if 244 < size {
-        return Written::Refused(20);
+        return Err(Refusal::DataLength);
     }
     if !good_flags(fields.flags) {
-        return Written::Refused(21);
+        return Err(Refusal::DataByte);
     }
     let response = fields.response;
     if !good_response(response) {
-        return Written::Refused(21);
+        return Err(Refusal::DataByte);
     }
     if !good_extension(extension) {
-        return Written::Refused(21);
+        return Err(Refusal::DataByte);
     }
     if out.len() < size {
-        return Written::Refused(11);
+        return Err(Refusal::NoRoom);
     }
-    Written::Stored(put(fields, user, out))
+    Ok(put(fields, user, out))
 }

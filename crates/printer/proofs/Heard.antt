@@ -1,4 +1,5 @@
 -- The step, case by case.
+use Rattle.std.specs.Prelude.{Ok}
 use mathlib.Core.Path.{◌≡◌, refl, sym, ap, ap₂, ◌∙◌, subst}
 use mathlib.Core.Bool.{Bool}
 use mathlib.Core.List.{List}
@@ -6,20 +7,16 @@ use Prim.Native.Nat.{ℕ, ◌≤◌}
 use lib.Dec.{ltb}
 use lib.ListN.{length}
 use borrow.Author.Tests.{ltb-false}
-use Rattle.octets.specs.Choice.{pick}
 use Rattle.octets.proofs.Fixed.{passed}
-use Rattle.octets.specs.Front.{AtFront, Verdict, fine, over}
+use Rattle.octets.specs.Front.{AtFront, fine}
 use Rattle.diagnosis.specs.Reading as diagnosis
-use Rattle.protocol.specs.Check.{verdict_in}
 use Rattle.protocol.proofs.Lemmas.Replies.{valid}
 use Rattle.protocol.proofs.MachineLaws.Replies.{Comes, comes}
 use Rattle.protocol.specs.Printer as printer
 use Rattle.protocol.specs.Printer.{received_of, perform, reply_bytes, renewed, is_repeat, saying, new_call, counted, heard_by, hear, is_refused, verdict_of, Station, lending, leaving, stepped, step_by, step_of}
 use Rattle.protocol.specs.Slots.{Slots, too_long}
-use Rattle.protocol.specs.declared.check.Check.{Check}
 use Rattle.protocol.specs.declared.printer.Printer.{Printer}
 use Rattle.protocol.specs.declared.printer.Reaction.{Reaction}
-use Rattle.protocol.specs.declared.printer.Reaction.TheVariants as reaction
 use Rattle.printer_input.specs.Meaning.{ask_in, received_in}
 use Rattle.printer_input.specs.declared.Ask.{Ask}
 use Rattle.printer_input.specs.declared.Ask.TheVariants as ask
@@ -45,28 +42,11 @@ pub ready : {diag : List ℕ} {address to : ℕ} {buffer : List ℕ} → Usable 
 ready u t = record { stations = record { own = u.own; other = t; room = u.room }; diagnosis = u.diagnosis }
 
 module _ (diag : List ℕ) (n : ℕ) (s : List ℕ) (x : Station) where
-  -- by what was judged
-  pub by_check : {c k : Check} → verdict_in c ≡ verdict_of diag x → c ≡ k → step_by (verdict_in k) diag n s x ≡ step_of diag n s x
-  unfolding step_of
-  by_check e t = ap (λ (v : Verdict). step_by v diag n s x) (ap verdict_in (sym t) ∙ e)
-
   -- by what was received
   pub by_received : {r k : Received} → received_in s r ≡ received_of x.printer.address s → r ≡ k
       → stepped (heard_by diag n (received_in s k) x) ≡ stepped (hear diag n s x)
   unfolding hear
   by_received e t = ap (λ (y : printer.Received). stepped (heard_by diag n y x)) (ap (received_in s) (sym t) ∙ e)
-
-  -- by whether a counted call is a repeat
-  pub by_repeat : (fcb : Bool) (sa : ℕ) (ask : printer.Ask) {b : Bool} → is_repeat x.printer fcb sa ≡ b
-      → stepped (pick b (record { station = x; reply = x.printer.held })
-      (new_call diag x fcb sa (perform x.printer.boarding n x.printer.pending x.slots x.printer.writes ask)))
-      ≡ stepped (heard_by diag n (counted fcb sa ask) x)
-  by_repeat fcb sa ask e =
-      ap
-      (λ (b : Bool).
-      stepped (pick b (record { station = x; reply = x.printer.held })
-      (new_call diag x fcb sa (perform x.printer.boarding n x.printer.pending x.slots x.printer.writes ask))))
-      (sym e)
 
 -- ---- calls
 
@@ -86,19 +66,15 @@ ask_body s ask.Undecodable = refl
 
 -- one that is not held
 pub sent : (lengths bodies : List ℕ) {p : Printer} {said out out' : List ℕ} {r : Reaction} → Sends p said out out' r
-    → leaving r lengths bodies out' ≡ stepped (saying p (slots_of lengths bodies) out said)
-sent lengths bodies e = ap₂ (λ (r : Reaction) (o : List ℕ). leaving r lengths bodies o) e.answer e.bytes
-
-pub opens : {p q : Printer} {n : ℕ} {said told out out' : List ℕ} → q ≡ p → told ≡ said → AtFront told out out' n → Sends p said out out' (reaction.Heard q n)
-opens {out = out} a b f =
-    record { answer = ap₂ reaction.Heard a (f.counted ∙ ap length b); bytes = f.bytes ∙ ap (λ (l : List ℕ). over l out) b }
+    → leaving (Ok r) lengths bodies out' ≡ stepped (saying p (slots_of lengths bodies) out said)
+sent lengths bodies e = ap₂ (λ (r : Reaction) (o : List ℕ). leaving (Ok r) lengths bodies o) e.answer e.bytes
 
 -- a new call, carried out
 pub carried : (diag : List ℕ) (p : Printer) (fcb : Bool) (sa : ℕ) (d : Deed) (body lengths bodies out : List ℕ) {lengths' bodies' out' : List ℕ} {n : ℕ} {q : Printer}
     → slots_of lengths' bodies' ≡ slots_after d.target body (slots_of lengths bodies)
     → AtFront (reply_bytes diag p.address sa (reply_in d.reply)) out out' n
     → q ≡ renewed p fcb sa n (deed_in d body (slots_of lengths bodies))
-    → leaving (reaction.Heard q n) lengths' bodies' out' ≡ stepped (new_call diag (lending p lengths bodies out) fcb sa (deed_in d body (slots_of lengths bodies)))
+    → leaving (Ok (record { printer = q; reply = n })) lengths' bodies' out' ≡ stepped (new_call diag (lending p lengths bodies out) fcb sa (deed_in d body (slots_of lengths bodies)))
 carried diag p fcb sa d body lengths bodies out {out' = out'} {n} {q} kept front next =
-    ap (λ (s : Slots). leaving (reaction.Heard q n) s.lengths s.bodies out') kept
+    ap (λ (s : Slots). leaving (Ok (record { printer = q; reply = n })) s.lengths s.bodies out') kept
     ∙ rw (next, front.counted, front.bytes)

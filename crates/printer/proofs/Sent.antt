@@ -1,4 +1,5 @@
 -- Replies that may be written, and have room.
+use Rattle.std.specs.Prelude.{Ok}
 use mathlib.Core.Path.{◌≡◌, refl, ap, ◌∙◌, subst}
 use mathlib.Core.List.{List, []}
 use Prim.Native.Nat.{ℕ, ◌+◌, ◌-◌, ◌≤◌}
@@ -6,9 +7,7 @@ use native.Mathlib.Omega.{arith}
 use lib.ListN.{length}
 use borrow.Rule.Slice.PartMut.{mid_of, put_mid}
 use borrow.Author.Tests.{le-leb}
-use Rattle.octets.specs.Front.{Verdict, fine, AtFront, answer_by, held_by}
-use Rattle.octets.specs.declared.Written.{Written}
-use Rattle.octets.specs.declared.Written.TheVariants.{Stored}
+use Rattle.octets.specs.Front.{Verdict, fine, AtFront, answer_by, held_by, Written}
 use Rattle.function_code.specs.Code.{class_of, is_reserved}
 use Rattle.function_code.specs.declared.code.Class.TheVariants as class
 use Rattle.fdl.specs.Around.{user_in}
@@ -37,7 +36,7 @@ module _ (t l : List ℕ) {v : Verdict} {w : Written} (f : v ≡ fine) (short : 
   fits : length t ≤ length l
   fits = omega arith
 
-  answered : w ≡ Stored (length t)
+  answered : w ≡ Ok (length t)
   unfolding answer_by
   answered = a ∙ rw f (simp (le-leb _ _ fits))
 

@@ -4,7 +4,6 @@ use Rattle.octets.specs.Front.{over}
 use Rattle.protocol.specs.Verdicts.{Valid}
 use Rattle.protocol.specs.declared.printer.Printer.{Printer}
 use Rattle.protocol.specs.declared.printer.Reaction.{Reaction}
-use Rattle.protocol.specs.declared.printer.Reaction.TheVariants as reaction
 
 -- a printer that may be used
 pub record Usable (diag : List ℕ) (address : ℕ) (buffer : List ℕ) : Type 0 where
@@ -25,5 +24,5 @@ pub record Ready (diag : List ℕ) (address to : ℕ) (buffer : List ℕ) : Type
 
 -- a reply stored in front of the buffer, and its length answered
 pub record Sends (p : Printer) (said before after : List ℕ) (r : Reaction) : Type 0 where
-  pub answer : r ≡ reaction.Heard p (length said)
+  pub answer : r ≡ record { printer = p; reply = length said }
   pub bytes : after ≡ over said before

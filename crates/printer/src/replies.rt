@@ -1,6 +1,7 @@
 // The printer's replies as bytes, made at the front of the lent reply buffer. All have station type 0: bare
 // ones stand in SD1, data in SD2.
 ghost use Rattle.std.specs.Prelude.{◌≡◌, [], ◌≤◌, length};
+ghost use Rattle.octets.specs.Refusals.{told};
 ghost use Rattle.octets.specs.Front.{AtFront};
 ghost use Rattle.fdl.specs.Writing.{confirmation_bytes};
 ghost use Rattle.content.specs.Writing.{bytes_for};
@@ -13,7 +14,7 @@ ghost use Rattle.printer.specs.Ready.{Between, Ready};
 
 use access::Service;
 use fdl::{Format, Header, Sap};
-use octets::Written;
+use octets::Refusal;
 use printer_rules::{Reply, Status};
 use protocol::Outcome;
 
@@ -35,16 +36,17 @@ fn function_of(status: Status) -> u8
 }
 
 // How many bytes a writer stored: no telegram has more than 255.
-fn stored(written: Written) -> u8
-    requires { stored_in written ≤ 255 }
-    ensures { result ≡ stored_in written }
+fn stored(written: Result<usize, Refusal>) -> u8
+    requires { stored_in (told written) ≤ 255 }
+    ensures { result ≡ stored_in (told written) }
 {
     match written {
-        Written::Stored(count) => count as u8,
-        Written::Refused(_) => 0,
+        Ok(count) => count as u8,
+        Err(_) => 0,
     }
 }
 
+#[tactic(auto, unfolding(octets::specs::Front::answer_by, octets::specs::Front::held_by))]
 fn say_confirmation(out: &mut [u8]) -> u8
     requires { 255 ≤ length out.old }
     ensures { AtFront confirmation_bytes out.old out.new result }
@@ -60,8 +62,8 @@ pub(crate) fn say_bare(status: Status, address: u8, to: u8, out: &mut [u8]) -> u
         da: to,
         sa: address,
         fc: function_of(status),
-        dsap: Sap::Absent,
-        ssap: Sap::Absent,
+        dsap: None,
+        ssap: None,
     };
     stored(fdl_writer::write_around(Format::Sd1, header, 0, out))
 }

@@ -1,6 +1,6 @@
 -- The printer's state as eleven bytes: address, boarding, FCB, SA, the held reply's count; the pending result's kind, three
 -- fields and the polls before it; the writes.
-use Rattle.std.specs.Prelude.{ℕ, List, [], ◌∷◌, eqb, ltb, get_or}
+use Rattle.std.specs.Prelude.{ℕ, List, [], ◌∷◌, eqb, ltb, get_or, Some, None, Option}
 use Rattle.octets.specs.Choice.{pick}
 use Rattle.octets.specs.Bits.{bit_of}
 use Rattle.protocol.specs.declared.printer.Outcome.{Outcome}
@@ -9,23 +9,27 @@ use Rattle.protocol.specs.declared.printer.Pending.{Pending}
 use Rattle.protocol.specs.declared.printer.Pending.TheVariants as pending
 use Rattle.protocol.specs.declared.printer.Printer.{Printer}
 use Rattle.printer_bytes.specs.declared.state.Five.{Five}
-use Rattle.printer_bytes.specs.declared.state.PendingFound.{PendingFound}
-use Rattle.printer_bytes.specs.declared.state.PendingFound.TheVariants as pending-found
-use Rattle.printer_bytes.specs.declared.state.PrinterFound.{PrinterFound}
-use Rattle.printer_bytes.specs.declared.state.PrinterFound.TheVariants as printer-found
+
+-- what bytes say of a result, if they can
+abbrev pub PendingFound : Type 0
+PendingFound = Option Pending
+
+-- the printer that bytes are the state of, if they are one's
+abbrev pub PrinterFound : Type 0
+PrinterFound = Option Printer
 
 -- ---- what bytes are the state of
 
 -- 0 for none, 1 for a positive result, 2 for a negative one
 unfoldable pub pending_by : (kind first second third wait : ℕ) → PendingFound
 pending_by kind first second third wait =
-    pick (eqb kind 0) (pending-found.Is pending.Nothing)
-    (pick (eqb kind 1) (pending-found.Is (pending.Result (outcome.Positive first second third) wait))
-    (pick (eqb kind 2) (pending-found.Is (pending.Result (outcome.Negative first second) wait)) pending-found.Unknown))
+    pick (eqb kind 0) (Some pending.Nothing)
+    (pick (eqb kind 1) (Some (pending.Result (outcome.Positive first second third) wait))
+    (pick (eqb kind 2) (Some (pending.Result (outcome.Negative first second) wait)) None))
 
 abbrev pub found : (state : List ℕ) → PendingFound → PrinterFound
-found s (pending-found.Is p) =
-    printer-found.Is
+found s (Some p) =
+    Some
     (record {
       address = get_or s 0 0;
       boarding = eqb (get_or s 1 0) 1;
@@ -35,13 +39,13 @@ found s (pending-found.Is p) =
       pending = p;
       writes = get_or s 10 0;
     })
-found s pending-found.Unknown = printer-found.Unknown
+found s None = None
 
 -- neither test is above 1, and the kind of the pending result is known
 unfoldable pub printer_in : (state : List ℕ) → PrinterFound
 printer_in s =
-    pick (ltb 1 (get_or s 1 0)) printer-found.Unknown
-    (pick (ltb 1 (get_or s 2 0)) printer-found.Unknown
+    pick (ltb 1 (get_or s 1 0)) None
+    (pick (ltb 1 (get_or s 2 0)) None
     (found s (pending_by (get_or s 5 0) (get_or s 6 0) (get_or s 7 0) (get_or s 8 0) (get_or s 9 0))))
 
 -- ---- the bytes of a state

@@ -3,4 +3,4 @@
 
 mod state;
 
-pub use state::{PrinterFound, printer_in, put_printer};
+pub use state::{printer_in, put_printer};

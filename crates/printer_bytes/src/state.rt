@@ -5,71 +5,57 @@ ghost use Rattle.printer_bytes.specs.State.{pending_by, printer_in, pending_byte
 use octets::bit_of;
 use protocol::{Outcome, Pending, Printer};
 
-// The printer that bytes are the state of, if they are one's.
-#[derive(Clone, Copy)]
-pub enum PrinterFound {
-    Is(Printer),
-    Unknown,
-}
-
-#[derive(Clone, Copy)]
-enum PendingFound {
-    Is(Pending),
-    Unknown,
-}
-
 // The pending result: its kind, three fields that each kind has its own use for, and the polls before it.
 #[derive(Clone, Copy)]
 struct Five(u8, u8, u8, u8, u8);
 
-fn pending_by(kind: u8, first: u8, second: u8, third: u8, wait: u8) -> PendingFound
+#[tactic(auto, unfolding(crate::specs::State::pending_by))]
+fn pending_by(kind: u8, first: u8, second: u8, third: u8, wait: u8) -> Option<Pending>
     ensures { result ≡ pending_by kind first second third wait }
 {
     match kind {
-        0 => PendingFound::Is(Pending::Nothing),
-        1 => {
-            let outcome = Outcome::Positive {
+        0 => Some(Pending::Nothing),
+        1 => Some(Pending::Result {
+            outcome: Outcome::Positive {
                 slot: first,
                 index: second,
                 length: third,
-            };
-            PendingFound::Is(Pending::Result { outcome, wait })
-        }
-        2 => {
-            let outcome = Outcome::Negative {
+            },
+            wait,
+        }),
+        2 => Some(Pending::Result {
+            outcome: Outcome::Negative {
                 code1: first,
                 code2: second,
-            };
-            PendingFound::Is(Pending::Result { outcome, wait })
-        }
-        _ => PendingFound::Unknown,
+            },
+            wait,
+        }),
+        _ => None,
     }
 }
 
 // The printer that the bytes are the state of: neither test is above 1, and the kind of the pending result
 // is known.
-pub fn printer_in(state: &[u8; 11]) -> PrinterFound
+#[tactic(auto, unfolding(crate::specs::State::printer_in))]
+pub fn printer_in(state: &[u8; 11]) -> Option<Printer>
     ensures { result ≡ printer_in state.now }
 {
     if 1 < state[1] {
-        return PrinterFound::Unknown;
+        return None;
     }
     if 1 < state[2] {
-        return PrinterFound::Unknown;
+        return None;
     }
-    let pending = pending_by(state[5], state[6], state[7], state[8], state[9]);
-    match pending {
-        PendingFound::Unknown => PrinterFound::Unknown,
-        PendingFound::Is(pending) => PrinterFound::Is(Printer {
-            address: state[0],
-            boarding: state[1] == 1,
-            fcb: state[2] == 1,
-            sa: state[3],
-            held: state[4],
-            pending,
-            writes: state[10],
-        }),
-    }
+    let pending = pending_by(state[5], state[6], state[7], state[8], state[9])?;
+    Some(Printer {
+        address: state[0],
+        boarding: state[1] == 1,
+        fcb: state[2] == 1,
+        sa: state[3],
+        held: state[4],
+        pending,
+        writes: state[10],
+    })
 }
 
 fn pending_bytes(pending: Pending) -> Five
@@ -92,8 +78,7 @@ fn pending_bytes(pending: Pending) -> Five
 pub fn put_printer(printer: Printer, state: &mut [u8; 11])
     ensures { state.new ≡ printer_bytes printer }
 {
-    let pending = printer.pending;
-    let five = pending_bytes(pending);
+    let five = pending_bytes(printer.pending);
     *state = [
         printer.address,
         bit_of(printer.boarding),

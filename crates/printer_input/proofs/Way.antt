@@ -1,4 +1,5 @@
 -- No header with a call's function code names an answer.
+use Rattle.std.specs.Prelude.{Some, None}
 use Prim.Native.Nat.{ℕ, ◌%◌}
 use mathlib.Core.Path.{◌≡◌, refl, sym, ap, ◌∙◌}
 use mathlib.Core.Bool.{Bool, true, false}
@@ -7,12 +8,11 @@ use Rattle.octets.proofs.Choice.{by_pick, never}
 use Rattle.function_code.specs.declared.code.Class.{Class}
 use Rattle.function_code.specs.declared.code.Class.TheVariants as class
 use Rattle.fdl.specs.declared.telegram.Header.{Header}
-use Rattle.fdl.specs.declared.telegram.Sap.{Sap}
+use Rattle.fdl.specs.Sap.{Sap}
 use Rattle.access.specs.Route.{is_global_control, named_by, call_route, command_route, kind_by, route_by}
 use Rattle.access.specs.declared.route.Answering.{Answering}
 use Rattle.access.specs.declared.route.Kind.{Kind}
-use Rattle.access.specs.declared.table.Named.{Named}
-use Rattle.access.specs.declared.table.Named.TheVariants.{Is, Nothing}
+use Rattle.access.specs.Table.{Named}
 use Rattle.access.specs.declared.route.Route.{Route}
 use Rattle.access.specs.declared.route.Route.TheVariants as route
 use Rattle.protocol.specs.Printer.{is_call}
@@ -23,12 +23,12 @@ is_answer (route.Call s) = false
 is_answer (route.Answer a) = true
 
 call_way : (n : Named) → is_answer (call_route n) ≡ false
-call_way Nothing = refl
-call_way (Is s) = by_pick (λ (r : Route). is_answer r ≡ false) (is_global_control s) (λ _. refl) (λ _. refl)
+call_way None = refl
+call_way (Some s) = by_pick (λ (r : Route). is_answer r ≡ false) (is_global_control s) (λ _. refl) (λ _. refl)
 
 command_way : (n : Named) → is_answer (command_route n) ≡ false
-command_way Nothing = refl
-command_way (Is s) = by_pick (λ (r : Route). is_answer r ≡ false) (is_global_control s) (λ _. refl) (λ _. refl)
+command_way None = refl
+command_way (Some s) = by_pick (λ (r : Route). is_answer r ≡ false) (is_global_control s) (λ _. refl) (λ _. refl)
 
 by_class : (k : Class) (fc : ℕ) (dsap ssap : Sap) → is_call k ≡ true → is_answer (route_by (kind_by k fc) dsap ssap) ≡ false
 by_class class.Opening fc dsap ssap e = call_way (named_by dsap ssap)

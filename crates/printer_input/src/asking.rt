@@ -1,6 +1,7 @@
 // What an opening or a counted call asks for, by the service that it carries. Places are those in the
 // telegram, whatever its bytes are.
-ghost use Rattle.std.specs.Prelude.{◌≡◌, true, List, ℕ, ◌+◌, ◌≤◌, length};
+ghost use Rattle.std.specs.Prelude.{◌≡◌, true, List, ℕ, ◌+◌, ◌≤◌, length, Ok, Err};
+ghost use Rattle.octets.specs.Refusals.{number, told};
 ghost use Rattle.octets.specs.Part.{part_of};
 ghost use Rattle.octets.specs.declared.Mode.TheVariants.{Dpv1};
 ghost use Rattle.function_code.specs.Code.{class_of};
@@ -12,17 +13,16 @@ ghost use Rattle.access.specs.Route.{route_of};
 ghost use Rattle.content.specs.Reading.{end_of};
 ghost use Rattle.service.specs.Reading.{placed_at, routed_by};
 ghost use Rattle.service.specs.declared.reading.Way.TheVariants as way;
-ghost use Rattle.service.specs.declared.reading.Reading.TheVariants.{Refused};
 ghost use Rattle.protocol.specs.Printer as printer;
 ghost use Rattle.printer_input.specs.Meaning.{ask_in};
 
 use crate::Ask;
 use access::Route;
 use acyclic::Call;
-use content::{Content, UserData};
+use content::Content;
 use fdl::Header;
 use function_code::Class;
-use octets::{Mode, Refusal};
+use octets::{Mode, Read, Refusal};
 
 // A write, a poll for its result, or a DPV1 function that the printer does not have.
 fn asked_of_dpv1(call: Call, start: usize, len: usize) -> Ask
@@ -30,24 +30,13 @@ fn asked_of_dpv1(call: Call, start: usize, len: usize) -> Ask
 {
     match call {
         Call::Poll => Ask::Poll,
-        Call::Read {
-            slot: _,
-            index: _,
-            length: _,
-        } => Ask::Unknown,
         Call::Write { slot, index } => Ask::Write {
             slot,
             index,
             start,
             len,
         },
-        Call::AlarmAck {
-            slot: _,
-            alarm: _,
-            specifier: _,
-        } => Ask::Unknown,
-        Call::Idle => Ask::Unknown,
-        Call::Transport { slot: _, index: _ } => Ask::Unknown,
+        _ => Ask::Unknown,
     }
 }
 
@@ -56,44 +45,30 @@ fn asked_of(content: Content, start: usize, len: usize) -> Ask
     ensures { (s : List ℕ) → ask_in s result ≡ printer.ask_of content (part_of s start len) }
 {
     match content {
-        Content::DataExchange => Ask::Unknown,
-        Content::Dpv1Call(call) => asked_of_dpv1(call, start, len),
-        Content::Dpv1Answer(_) => Ask::Unknown,
-        Content::ExtUserPrm => Ask::Unknown,
-        Content::SetSlaveAdr(_) => Ask::Unknown,
-        Content::RdInp => Ask::Unknown,
-        Content::RdOutp => Ask::Unknown,
-        Content::GlobalControl(_) => Ask::Unknown,
-        Content::GetCfg => Ask::Unknown,
         Content::SlaveDiagCall => Ask::SlaveDiag,
-        Content::SlaveDiag(_) => Ask::Unknown,
-        Content::SetPrm(_) => Ask::Unknown,
-        Content::ChkCfg => Ask::Unknown,
+        Content::Dpv1Call(call) => asked_of_dpv1(call, start, len),
+        _ => Ask::Unknown,
     }
 }
 
 // 10 says that there is no such service; any other refusal that the data cannot be read.
 fn refused(refusal: Refusal) -> Ask
-    ensures { (s : List ℕ) → ask_in s result ≡ printer.ask_by s (Refused refusal) }
+    ensures { (s : List ℕ) → ask_in s result ≡ printer.ask_by s (Err (number refusal)) }
 {
-    if refusal.number == 10 {
-        return Ask::Unknown;
+    match refusal {
+        Refusal::NoService => Ask::Unknown,
+        _ => Ask::Undecodable,
     }
-    Ask::Undecodable
 }
 
 // What is asked for, by what the reader of user data says, which stand at `at` in the telegram.
-fn asked_by(at: usize, found: UserData) -> Ask
-    requires { at + end_of found ≤ 255 }
-    ensures { (s : List ℕ) (f : Format) (h : Header) → ask_in s result ≡ printer.ask_by s (placed_at f h way.Call at found) }
+fn asked_by(at: usize, found: Result<Read<Content>, Refusal>) -> Ask
+    requires { at + end_of (told found) ≤ 255 }
+    ensures { (s : List ℕ) (f : Format) (h : Header) → ask_in s result ≡ printer.ask_by s (placed_at f h way.Call at (told found)) }
 {
     match found {
-        UserData::Is {
-            content,
-            start,
-            len,
-        } => asked_of(content, at + start, len),
-        UserData::Refused(refusal) => refused(refusal),
+        Ok(read) => asked_of(read.fields, at + read.start, read.len),
+        Err(refusal) => refused(refusal),
     }
 }
 
@@ -103,14 +78,12 @@ fn routed(class: Class, header: Header, at: usize, user: &[u8]) -> Ask
     requires { (class ≡ class_of header.fc) × (printer.is_call class ≡ true) × (at + length user.now ≤ 255) }
     ensures { (s : List ℕ) (f : Format) → ask_in s result ≡ printer.ask_by s (routed_by (route_of header) f header at user.now Dpv1) }
 {
-    let route = routing::route_by(class, header);
-    match route {
-        Route::Nowhere => Ask::Unknown,
+    match routing::route_by(class, header) {
         Route::Call(service) => {
             let found = content_reader::read_call(service, user, Mode::Dpv1);
             asked_by(at, found)
         }
-        Route::Answer(_) => Ask::Unknown,
+        Route::Nowhere | Route::Answer(_) => Ask::Unknown,
     }
 }
 
@@ -118,10 +91,7 @@ fn routed(class: Class, header: Header, at: usize, user: &[u8]) -> Ask
 fn is_srd(fc: u8) -> bool
     ensures { result ≡ printer.is_srd fc }
 {
-    if fc % 16 == 12 {
-        return true;
-    }
-    fc % 16 == 13
+    matches!(fc % 16, 12 | 13)
 }
 
 // What a call with this header asks for, whose function code is of this class and whose user data are the len bytes
@@ -134,7 +104,7 @@ pub(crate) fn asked_in(
     len: usize,
 ) -> Ask
     requires { (class ≡ class_of header.fc) × (printer.is_call class ≡ true) × (start + len ≤ 255) }
-    ensures { (f : Format) → Telegram f header start len ≡ read_of telegram.now → ask_in telegram.now result ≡ printer.ask_in telegram.now header.fc }
+    ensures { (f : Format) → Ok (Telegram f header start len) ≡ read_of telegram.now → ask_in telegram.now result ≡ printer.ask_in telegram.now header.fc }
 {
     if !is_srd(header.fc) {
         return Ask::Unknown;

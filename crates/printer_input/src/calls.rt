@@ -1,5 +1,5 @@
 // A call to this printer, by the class of its function code.
-ghost use Rattle.std.specs.Prelude.{◌≡◌, true, List, ℕ, ◌+◌, ◌≤◌};
+ghost use Rattle.std.specs.Prelude.{◌≡◌, true, List, ℕ, ◌+◌, ◌≤◌, Ok};
 ghost use Rattle.function_code.specs.Code.{class_of};
 ghost use Rattle.fdl.specs.Reading.{read_of};
 ghost use Rattle.fdl.specs.declared.telegram.Format.{Format};
@@ -17,14 +17,7 @@ use function_code::Class;
 pub(crate) fn is_call(class: Class) -> bool
     ensures { result ≡ is_call class }
 {
-    match class {
-        Class::Opening => true,
-        Class::Counted => true,
-        Class::Uncounted => true,
-        Class::Bare => false,
-        Class::Data => false,
-        Class::Reserved => false,
-    }
+    matches!(class, Class::Opening | Class::Counted | Class::Uncounted)
 }
 
 // FCB is bit 5.
@@ -55,7 +48,7 @@ pub(crate) fn called(
     len: usize,
 ) -> Received
     requires { (class ≡ class_of header.fc) × (is_call class ≡ true) × (start + len ≤ 255) }
-    ensures { (f : Format) → Telegram f header start len ≡ read_of telegram.now → received_in telegram.now result ≡ called_by class telegram.now header }
+    ensures { (f : Format) → Ok (Telegram f header start len) ≡ read_of telegram.now → received_in telegram.now result ≡ called_by class telegram.now header }
 {
     let ask = asked_in(class, telegram, header, start, len);
     match class {
@@ -66,8 +59,6 @@ pub(crate) fn called(
             ask,
         },
         Class::Uncounted => uncounted(header),
-        Class::Bare => Received::Nothing,
-        Class::Data => Received::Nothing,
-        Class::Reserved => Received::Nothing,
+        Class::Bare | Class::Data | Class::Reserved => Received::Nothing,
     }
 }

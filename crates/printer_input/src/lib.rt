@@ -2,7 +2,7 @@
 // asks for. The telegram is read once, also where it carries a service, and its class is looked up once.
 #![tactic(auto)]
 
-ghost use Rattle.std.specs.Prelude.{◌≡◌, ◌+◌, ◌≤◌};
+ghost use Rattle.std.specs.Prelude.{◌≡◌, ◌+◌, ◌≤◌, Ok};
 ghost use Rattle.function_code.specs.Code.{class_of};
 ghost use Rattle.fdl.specs.Reading.{read_of};
 ghost use Rattle.fdl.specs.declared.telegram.Format.{Format};
@@ -60,7 +60,7 @@ fn addressed(
     len: usize,
 ) -> Received
     requires { (class ≡ class_of header.fc) × (start + len ≤ 255) }
-    ensures { (f : Format) → Telegram f header start len ≡ read_of telegram.now → received_in telegram.now result ≡ received_by address telegram.now (Telegram f header start len) }
+    ensures { (f : Format) → Ok (Telegram f header start len) ≡ read_of telegram.now → received_in telegram.now result ≡ received_by address telegram.now (Ok (Telegram f header start len)) }
 {
     if !is_call(class) {
         return Received::Nothing;
@@ -75,17 +75,18 @@ fn addressed(
 pub fn receive(address: u8, telegram: &[u8]) -> Received
     ensures { received_in telegram.now result ≡ received_of address telegram.now }
 {
-    let reading = fdl_reader::read_classed(telegram);
-    match reading {
-        Classed::Confirmation => Received::Nothing,
-        Classed::Token { da: _, sa: _ } => Received::Nothing,
-        Classed::Telegram {
-            format: _,
-            header,
-            start,
-            len,
-            class,
-        } => addressed(address, class, telegram, header, start, len),
-        Classed::Refused(_) => Received::Nothing,
+    match fdl_reader::read_classed(telegram) {
+        Ok(
+            Classed::Telegram {
+                header,
+                start,
+                len,
+                class,
+                ..
+            },
+        ) => addressed(address, class, telegram, header, start, len),
+        Ok(Classed::Confirmation) => Received::Nothing,
+        Ok(Classed::Token { .. }) => Received::Nothing,
+        Err(_) => Received::Nothing,
     }
 }

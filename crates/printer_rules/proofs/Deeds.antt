@@ -1,9 +1,8 @@
--- What the rules' deeds come to.
-use mathlib.Core.Path.{◌≡◌, refl, sym, ap, subst}
+-- What the deed of a write that is performed comes to.
+use mathlib.Core.Path.{◌≡◌, refl}
 use mathlib.Core.Bool.{Bool, not}
 use mathlib.Core.List.{List}
-use Prim.Native.Nat.{ℕ, zero, suc, ◌-◌, min}
-use native.Mathlib.Omega.{arith}
+use Prim.Native.Nat.{ℕ, suc, min}
 use lib.Dec.{eqb, ltb}
 use borrow.Author.Tests.{ltb-false}
 use Rattle.octets.proofs.Choice.{by_pick}
@@ -12,25 +11,9 @@ use Rattle.protocol.specs.Printer.{judge, guarded, only, write_deed, waited}
 use Rattle.protocol.specs.Slots.{Slots}
 use Rattle.protocol.specs.declared.printer.Outcome.{Outcome}
 use Rattle.protocol.specs.declared.printer.Outcome.TheVariants as outcome
-use Rattle.protocol.specs.declared.printer.Pending.{Pending}
 use Rattle.protocol.specs.declared.printer.Pending.TheVariants as pending
-use Rattle.printer_rules.specs.Meaning.{reply_in, target_of, slots_after, untouched, Fits, Does}
-use Rattle.printer_rules.specs.declared.rules.Reply.{Reply}
+use Rattle.printer_rules.specs.Meaning.{Target, target_of, slots_after, Fits, Does}
 use Rattle.printer_rules.specs.declared.rules.Reply.TheVariants as reply
-use Rattle.printer_rules.specs.declared.rules.Target.{Target}
-use Rattle.printer_rules.specs.declared.rules.Deed.{Deed}
-
--- a deed that fills no slot
-pub keeps : {d : Deed} {p : Pending} {n : ℕ} {r : Reply} (len : ℕ) (meant : List ℕ → Slots → printer.Deed) → d ≡ untouched p n r
-    → ((body : List ℕ) (s : Slots) → only p s n (reply_in r) ≡ meant body s) → Does d len meant
-keeps len meant e f = subst (λ (d : Deed). Does d len meant) (sym e) (record { same = λ body s _. f body s; fits = tt })
-
--- one "not yet" fewer
-pub waits : (o : Outcome) (w : ℕ) (s : Slots) (n : ℕ) → (w ≡ 0 → ⊥) → only (pending.Result o (w - 1)) s n printer.confirmation ≡ waited o w s n
-waits o zero s n e = absurd (e refl)
-waits o (suc w) s n e =
-    let left : suc w - 1 ≡ w = omega arith in
-    ap (λ (k : ℕ). only (pending.Result o k) s n printer.confirmation) left
 
 -- a write that is performed
 target_slots : (o : Outcome) (index : ℕ) (body : List ℕ) (s : Slots) → slots_after (target_of o index) body s ≡ printer.slots_after o index body s

@@ -1,6 +1,6 @@
 -- What the plans of the code mean in the words of `protocol`: a reply, the slot that a write fills, and the whole of what
 -- a new call does. The body of a write is not part of a plan: it stays in the telegram.
-use Rattle.std.specs.Prelude.{◌≡◌, List, ℕ, ◌≤◌, length}
+use Rattle.std.specs.Prelude.{◌≡◌, List, ℕ, ◌≤◌, length, Option, Some, None}
 use Rattle.protocol.specs.Printer as printer
 use Rattle.protocol.specs.Slots.{Slots, written}
 use Rattle.protocol.specs.declared.printer.Outcome.{Outcome}
@@ -12,8 +12,6 @@ use Rattle.printer_rules.specs.declared.rules.Status.{Status}
 use Rattle.printer_rules.specs.declared.rules.Status.TheVariants as status
 use Rattle.printer_rules.specs.declared.rules.Reply.{Reply}
 use Rattle.printer_rules.specs.declared.rules.Reply.TheVariants as reply
-use Rattle.printer_rules.specs.declared.rules.Target.{Target}
-use Rattle.printer_rules.specs.declared.rules.Target.TheVariants as target
 use Rattle.printer_rules.specs.declared.rules.Deed.{Deed}
 
 -- ---- replies
@@ -43,14 +41,18 @@ ask_with ask.Undecodable body = printer.undecodable
 
 -- ---- what a new call does
 
+-- the slot that is filled, if one is
+abbrev pub Target : Type 0
+Target = Option ℕ
+
 -- the slot that a write with this result fills
 abbrev pub target_of : Outcome → (index : ℕ) → Target
-target_of (outcome.Positive slot i len) index = target.Slot index
-target_of (outcome.Negative code1 code2) index = target.Untouched
+target_of (outcome.Positive slot i len) index = Some index
+target_of (outcome.Negative code1 code2) index = None
 
 abbrev pub slots_after : Target → (body : List ℕ) → Slots → Slots
-slots_after target.Untouched body s = s
-slots_after (target.Slot i) body s = written i body s
+slots_after None body s = s
+slots_after (Some i) body s = written i body s
 
 abbrev pub deed_in : Deed → (body : List ℕ) → Slots → printer.Deed
 deed_in d body s =
@@ -58,12 +60,12 @@ deed_in d body s =
 
 -- a deed that fills no slot
 abbrev pub untouched : Pending → (writes : ℕ) → Reply → Deed
-untouched p n r = record { pending = p; writes = n; reply = r; target = target.Untouched }
+untouched p n r = record { pending = p; writes = n; reply = r; target = None }
 
 -- a slot that is filled is one of the sixteen, and takes a body of so many bytes
 abbrev pub Fits : Target → (len : ℕ) → Type 0
-Fits target.Untouched len = Unit {0}
-Fits (target.Slot i) len = (i ≤ 15) × (len ≤ 200)
+Fits None len = Unit {0}
+Fits (Some i) len = (i ≤ 15) × (len ≤ 200)
 
 -- a deed with a body of so many bytes is what `protocol` has of it, whatever the slots hold
 pub record Does (d : Deed) (len : ℕ) (meant : (body : List ℕ) → Slots → printer.Deed) : Type 0 where

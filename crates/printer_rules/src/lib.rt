@@ -4,4 +4,4 @@
 
 mod rules;
 
-pub use rules::{Deed, Reply, Status, Target, opening_reply, perform};
+pub use rules::{Deed, Reply, Status, opening_reply, perform};

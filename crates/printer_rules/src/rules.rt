@@ -24,30 +24,20 @@ pub enum Reply {
     Result(Outcome),
 }
 
-// The slot that the call's body goes to.
-#[derive(Clone, Copy)]
-pub enum Target {
-    Untouched,
-    Slot(u8),
-}
-
 // What a new call does.
 #[derive(Clone, Copy)]
 pub struct Deed {
     pub pending: Pending,
     pub writes: u8,
     pub reply: Reply,
-    pub target: Target,
+    pub target: Option<u8>,
 }
 
 // The slots that are not changed while boarding: slot seven.
 fn guarded(boarding: bool, index: u8) -> bool
     ensures { result ≡ guarded boarding index }
 {
-    if boarding {
-        return index == 7;
-    }
-    false
+    boarding && index == 7
 }
 
 // The result of a refused write: code 2 is zero.
@@ -58,6 +48,7 @@ fn negative(code1: u8) -> Outcome
 }
 
 // The result of a write of len bytes, the first rule that fits deciding.
+#[tactic(auto, unfolding(protocol::specs::Printer::judge))]
 fn judge(boarding: bool, slot: u8, index: u8, len: usize) -> Outcome
     ensures { result ≡ judge boarding slot index len }
 {
@@ -81,16 +72,12 @@ fn judge(boarding: bool, slot: u8, index: u8, len: usize) -> Outcome
 }
 
 // A refused write fills no slot.
-fn target_of(outcome: Outcome, index: u8) -> Target
+fn target_of(outcome: Outcome, index: u8) -> Option<u8>
     ensures { result ≡ target_of outcome index }
 {
     match outcome {
-        Outcome::Positive {
-            slot: _,
-            index: _,
-            length: _,
-        } => Target::Slot(index),
-        Outcome::Negative { code1: _, code2: _ } => Target::Untouched,
+        Outcome::Positive { .. } => Some(index),
+        Outcome::Negative { .. } => None,
     }
 }
 
@@ -98,10 +85,7 @@ fn target_of(outcome: Outcome, index: u8) -> Target
 fn one_more(writes: u8) -> u8
     ensures { result ≡ min 255 (suc writes) }
 {
-    if writes < 255 {
-        return writes + 1;
-    }
-    255
+    writes.saturating_add(1)
 }
 
 fn untouched(pending: Pending, writes: u8, reply: Reply) -> Deed
@@ -111,7 +95,7 @@ fn untouched(pending: Pending, writes: u8, reply: Reply) -> Deed
         pending,
         writes,
         reply,
-        target: Target::Untouched,
+        target: None,
     }
 }
 
@@ -119,8 +103,7 @@ fn untouched(pending: Pending, writes: u8, reply: Reply) -> Deed
 fn write(printer: Printer, not_yet: u8, slot: u8, index: u8, len: usize) -> Deed
     ensures { Does result len (λ body s. write_deed printer.boarding not_yet printer.pending s printer.writes slot index body) }
 {
-    let pending = printer.pending;
-    match pending {
+    match printer.pending {
         Pending::Nothing => {
             let outcome = judge(printer.boarding, slot, index, len);
             Deed {
@@ -133,10 +116,11 @@ fn write(printer: Printer, not_yet: u8, slot: u8, index: u8, len: usize) -> Deed
                 target: target_of(outcome, index),
             }
         }
-        Pending::Result {
-            outcome: _,
-            wait: _,
-        } => untouched(pending, printer.writes, Reply::Bare(Status::NoResource)),
+        Pending::Result { .. } => untouched(
+            printer.pending,
+            printer.writes,
+            Reply::Bare(Status::NoResource),
+        ),
     }
 }
 
@@ -144,9 +128,8 @@ fn write(printer: Printer, not_yet: u8, slot: u8, index: u8, len: usize) -> Deed
 fn poll(printer: Printer, len: usize) -> Deed
     ensures { Does result len (λ body s. poll_deed printer.pending s printer.writes) }
 {
-    let pending = printer.pending;
-    match pending {
-        Pending::Nothing => untouched(pending, printer.writes, Reply::Confirmation),
+    match printer.pending {
+        Pending::Nothing => untouched(Pending::Nothing, printer.writes, Reply::Confirmation),
         Pending::Result { outcome, wait } => {
             if wait == 0 {
                 return untouched(Pending::Nothing, printer.writes, Reply::Result(outcome));
@@ -167,12 +150,7 @@ pub fn perform(printer: Printer, not_yet: u8, ask: Ask, len: usize) -> Deed
     let pending = printer.pending;
     match ask {
         Ask::SlaveDiag => untouched(pending, printer.writes, Reply::Diagnosis),
-        Ask::Write {
-            slot,
-            index,
-            start: _,
-            len: _,
-        } => write(printer, not_yet, slot, index, len),
+        Ask::Write { slot, index, .. } => write(printer, not_yet, slot, index, len),
         Ask::Poll => poll(printer, len),
         Ask::Unknown => untouched(pending, printer.writes, Reply::Bare(Status::NoService)),
         Ask::Undecodable => untouched(pending, printer.writes, Reply::Bare(Status::UserError)),
@@ -185,14 +163,7 @@ pub fn opening_reply(ask: Ask) -> Reply
 {
     match ask {
         Ask::SlaveDiag => Reply::Diagnosis,
-        Ask::Write {
-            slot: _,
-            index: _,
-            start: _,
-            len: _,
-        } => Reply::Bare(Status::NoService),
-        Ask::Poll => Reply::Bare(Status::NoService),
-        Ask::Unknown => Reply::Bare(Status::NoService),
         Ask::Undecodable => Reply::Bare(Status::UserError),
+        _ => Reply::Bare(Status::NoService),
     }
 }

@@ -1,6 +1,5 @@
 // What the printer remembers between two telegrams, and how a repeat is told from a new call.
 ghost use Rattle.std.specs.Prelude.{◌≡◌, List, ℕ};
-ghost use Rattle.protocol.specs.Bits.{bits_agree};
 ghost use Rattle.protocol.specs.Printer.{drop_held, opened, renewed, is_repeat};
 ghost use Rattle.protocol.specs.Slots.{Slots};
 ghost use Rattle.printer_rules.specs.Meaning.{deed_in};
@@ -12,16 +11,7 @@ use protocol::{Pending, Printer};
 pub fn drop_held(printer: Printer) -> Printer
     ensures { result ≡ drop_held printer }
 {
-    let pending = printer.pending;
-    Printer {
-        address: printer.address,
-        boarding: printer.boarding,
-        fcb: printer.fcb,
-        sa: printer.sa,
-        held: 0,
-        pending,
-        writes: printer.writes,
-    }
+    Printer { held: 0, ..printer }
 }
 
 // After an opening call: FCB 1 and SA remembered, no held reply, no pending result, no write counted.
@@ -29,13 +19,12 @@ pub fn opened(printer: Printer, sa: u8) -> Printer
     ensures { result ≡ opened printer sa }
 {
     Printer {
-        address: printer.address,
-        boarding: printer.boarding,
         fcb: true,
         sa,
         held: 0,
         pending: Pending::Nothing,
         writes: 0,
+        ..printer
     }
 }
 
@@ -43,30 +32,19 @@ pub fn opened(printer: Printer, sa: u8) -> Printer
 pub fn renewed(printer: Printer, fcb: bool, sa: u8, held: u8, deed: Deed) -> Printer
     ensures { (body : List ℕ) (s : Slots) → result ≡ renewed printer fcb sa held (deed_in deed body s) }
 {
-    let pending = deed.pending;
     Printer {
-        address: printer.address,
-        boarding: printer.boarding,
         fcb,
         sa,
         held,
-        pending,
+        pending: deed.pending,
         writes: deed.writes,
+        ..printer
     }
-}
-
-fn same_bit(a: bool, b: bool) -> bool
-    ensures { result ≡ bits_agree a b }
-{
-    if a { b } else { !b }
 }
 
 // Whether a counted call is the last one again.
 pub fn is_repeat(printer: Printer, fcb: bool, sa: u8) -> bool
     ensures { result ≡ is_repeat printer fcb sa }
 {
-    if sa == printer.sa {
-        return same_bit(fcb, printer.fcb);
-    }
-    false
+    sa == printer.sa && fcb == printer.fcb
 }

@@ -1,5 +1,5 @@
 -- Every refusal of the printer's step, of the controller's step and of the download has a number of document 01's table.
-use Rattle.std.specs.Prelude.{ℕ, ◌≡◌, refl, true, List, [], ◌∷◌}
+use Rattle.std.specs.Prelude.{ℕ, ◌≡◌, refl, true, List, [], ◌∷◌, Ok, Err}
 use Rattle.octets.proofs.Choice.{through, alike}
 use Rattle.octets.specs.Front.{Verdict, fine, fault}
 use Rattle.octets.specs.Refusals.{listed, numbered}
@@ -7,35 +7,30 @@ use Rattle.octets.proofs.Refusals.{both_numbered}
 use Rattle.book.proofs.Refusals.{reading_numbered}
 use Rattle.protocol.specs.Line.{Passage, go, stop}
 use Rattle.protocol.specs.Printer as printer
-use Rattle.protocol.specs.Printer.{Station}
+use Rattle.protocol.specs.Printer.{Station, Reaction}
 use Rattle.protocol.specs.Controller as controller-end
-use Rattle.protocol.specs.Controller.{Move, Acted, settings_verdict, state_verdict}
+use Rattle.protocol.specs.Controller.{Move, Acted, settings_verdict, state_verdict, Action}
 use Rattle.protocol.specs.Download as joined
-use Rattle.protocol.specs.Download.{Given, download, line_verdict, ended_by}
+use Rattle.protocol.specs.Download.{Given, download, line_verdict, ended_by, Downloaded}
 use Rattle.protocol.specs.declared.printer.Printer.{Printer}
-use Rattle.protocol.specs.declared.printer.Reaction.{Reaction}
-use Rattle.protocol.specs.declared.printer.Reaction.TheVariants as reaction
 use Rattle.protocol.specs.declared.controller.Settings.{Settings}
 use Rattle.protocol.specs.declared.controller.Controller.{Controller}
 use Rattle.protocol.specs.declared.controller.Controller.TheVariants as controller
-use Rattle.protocol.specs.declared.controller.Action.{Action}
 use Rattle.protocol.specs.declared.controller.Action.TheVariants as action
-use Rattle.protocol.specs.declared.download.Downloaded.{Downloaded}
-use Rattle.protocol.specs.declared.download.Downloaded.TheVariants as downloaded
 
 -- the verdict that a step came to, and a download
 abbrev pub reaction_verdict : Reaction → Verdict
-reaction_verdict (reaction.Heard p n) = fine
-reaction_verdict (reaction.Refused k) = fault k
+reaction_verdict (Ok found) = fine
+reaction_verdict (Err k) = fault k
 
 abbrev pub action_verdict : Action → Verdict
-action_verdict (action.Send o n) = fine
-action_verdict (action.End e) = fine
-action_verdict (action.Refused k) = fault k
+action_verdict (Ok (action.Send o n)) = fine
+action_verdict (Ok (action.End e)) = fine
+action_verdict (Err k) = fault k
 
 abbrev pub downloaded_verdict : Downloaded → Verdict
-downloaded_verdict (downloaded.Ended e n p) = fine
-downloaded_verdict (downloaded.Refused k) = fault k
+downloaded_verdict (Ok found) = fine
+downloaded_verdict (Err k) = fault k
 
 -- ---- the printer
 

@@ -1,24 +1,21 @@
 -- Two cards on a line, as firmware runs them (document 01, "Template book, printer, download"). One calls the controller's step and
 -- the other the printer's, each with what it keeps and lends, and only bytes go between them. A lost telegram calls no step. That a
 -- step refuses is an outcome of its own, so that it can be said that it never comes.
-use Rattle.std.specs.Prelude.{ℕ, zero, suc, ◌≤◌, ◌≡◌, List, [], ◌∷◌, length, get_or, take}
+use Rattle.std.specs.Prelude.{ℕ, zero, suc, ◌≤◌, ◌≡◌, List, [], ◌∷◌, length, get_or, take, Ok, Err}
 use Rattle.octets.specs.Front.{fine}
 use Rattle.book.specs.Reading as book-format
 use Rattle.protocol.specs.Line.{Passage, through, request_lost, reply_lost, request_damaged, reply_damaged, Answered, Sending, go, stop, passage_of, rest_of}
 use Rattle.protocol.specs.Slots.{Slots}
 use Rattle.protocol.specs.Printer as printer-step
-use Rattle.protocol.specs.Printer.{Station, Stepped}
+use Rattle.protocol.specs.Printer.{Station, Stepped, Reaction}
 use Rattle.protocol.specs.Controller as controller-step
-use Rattle.protocol.specs.Controller.{Move, Acted, settings_verdict, book_verdict}
+use Rattle.protocol.specs.Controller.{Move, Acted, settings_verdict, book_verdict, Action}
 use Rattle.protocol.specs.Download.{Config, given, bound}
 use Rattle.protocol.specs.Demand.{Demand3, final, all}
-use Rattle.protocol.specs.declared.controller.Action.{Action}
 use Rattle.protocol.specs.declared.controller.Action.TheVariants as action
 use Rattle.protocol.specs.declared.controller.Controller.{Controller}
 use Rattle.protocol.specs.declared.controller.Controller.TheVariants as controller
 use Rattle.protocol.specs.declared.controller.Settings.{Settings}
-use Rattle.protocol.specs.declared.printer.Reaction.{Reaction}
-use Rattle.protocol.specs.declared.printer.Reaction.TheVariants as reaction
 
 -- both cards between two sendings
 pub record Cards : Type 0 where
@@ -41,8 +38,8 @@ pub data OrRefused (A : Type 0) : Type 0 where
 
 -- by its step's answer: as many bytes of the front of its buffer go back as it says
 abbrev pub reacted_by : Reaction → Slots → (buffer : List ℕ) → OrRefused (Answered Station)
-reacted_by (reaction.Heard p n) s b = on (record { state = record { printer = p; slots = s; buffer = b }; reply = take n b })
-reacted_by (reaction.Refused k) s b = refused k
+reacted_by (Ok found) s b = on (record { state = record { printer = found.printer; slots = s; buffer = b }; reply = take found.reply b })
+reacted_by (Err k) s b = refused k
 
 abbrev pub reacted : Stepped → OrRefused (Answered Station)
 reacted y = reacted_by y.answer y.slots y.buffer
@@ -56,9 +53,9 @@ instead s (refused k) = refused k
 
 -- by its step's answer: as many bytes of the front of its buffer go out as it says
 abbrev pub acted_by : Action → (request : List ℕ) → Station → List Passage → (sent : ℕ) → OrRefused Cards
-acted_by (action.Send o n) u x l m = on (record { move = go (take n u) o; request = u; printer = x; line = l; sent = m })
-acted_by (action.End e) u x l m = on (record { move = stop e; request = u; printer = x; line = l; sent = m })
-acted_by (action.Refused k) u x l m = refused k
+acted_by (Ok (action.Send o n)) u x l m = on (record { move = go (take n u) o; request = u; printer = x; line = l; sent = m })
+acted_by (Ok (action.End e)) u x l m = on (record { move = stop e; request = u; printer = x; line = l; sent = m })
+acted_by (Err k) u x l m = refused k
 
 abbrev pub acts : Acted → Station → List Passage → (sent : ℕ) → OrRefused Cards
 acts a x l m = acted_by a.answer a.buffer x l m

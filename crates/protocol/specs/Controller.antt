@@ -1,5 +1,5 @@
 -- The controller's step (document 01, "The controller's step"): what a reply is to the controller, the next request or the end.
-use Rattle.std.specs.Prelude.{ℕ, zero, suc, ◌-◌, ◌%◌, Bool, true, false, not, List, [], ◌∷◌, eqb, ltb, length, drop}
+use Rattle.std.specs.Prelude.{ℕ, zero, suc, ◌-◌, ◌%◌, Bool, true, false, not, List, [], ◌∷◌, eqb, ltb, length, drop, Ok, Err, Result}
 use Rattle.octets.specs.Choice.{pick, ◌and◌, ◌or◌}
 use Rattle.octets.specs.Front.{Verdict, fine, fault, over}
 use Rattle.octets.specs.Fixed.{judged}
@@ -8,7 +8,6 @@ use Rattle.fdl.specs.Reading as telegram
 use Rattle.fdl.specs.declared.telegram.Format.{Format}
 use Rattle.fdl.specs.declared.telegram.Format.TheVariants.{Sd1, Sd2, Sd3}
 use Rattle.fdl.specs.declared.telegram.Header.{Header}
-use Rattle.fdl.specs.declared.reading.Reading as telegram-type
 use Rattle.fdl.specs.declared.reading.Reading.TheVariants as telegram-reading
 use Rattle.acyclic.specs.declared.answers.Answer.{Answer}
 use Rattle.acyclic.specs.declared.answers.Answer.TheVariants as answer
@@ -17,12 +16,9 @@ use Rattle.acyclic.specs.declared.numbers.Function.TheVariants as function
 use Rattle.content.specs.declared.fields.Content.{Content}
 use Rattle.content.specs.declared.fields.Content.TheVariants as content
 use Rattle.service.specs.Reading as service
-use Rattle.service.specs.declared.reading.Reading as service-type
-use Rattle.service.specs.declared.reading.Reading.TheVariants as service-reading
 use Rattle.book.specs.Contents.{Entry, templates_of}
 use Rattle.book.specs.Reading as book-format
 use Rattle.book.specs.Refusals as book-refusals
-use Rattle.book.specs.declared.answers.Reading as book-type
 use Rattle.protocol.specs.Bits.{bits_agree}
 use Rattle.protocol.specs.Line.{go, stop}
 use Rattle.protocol.specs.Line as line
@@ -34,8 +30,12 @@ use Rattle.protocol.specs.declared.controller.Controller.{Controller}
 use Rattle.protocol.specs.declared.controller.Controller.TheVariants as controller
 use Rattle.protocol.specs.declared.controller.Ending.{Ending}
 use Rattle.protocol.specs.declared.controller.Ending.TheVariants as ending
-use Rattle.protocol.specs.declared.controller.Action.{Action}
+use Rattle.protocol.specs.declared.controller.Action as act
 use Rattle.protocol.specs.declared.controller.Action.TheVariants as action
+
+-- what the controller does next, or a refusal's number
+abbrev pub Action : Type 0
+Action = Result act.Action ℕ
 
 -- ---- what a reply is to the controller
 
@@ -90,15 +90,15 @@ got_of (content.SlaveDiag h) = diagnosis
 got_of (content.SetPrm f) = other
 got_of content.ChkCfg = other
 
-abbrev pub got_by : service-type.Reading → Got
-got_by (service-reading.Service f h w c start len) = got_of c
-got_by (service-reading.Refused r) = other
+abbrev pub got_by : service.Reading → Got
+got_by (Ok found) = got_of found.content
+got_by (Err r) = other
 
-abbrev pub got_from : Settings → List ℕ → telegram-type.Reading → Got
-got_from c s telegram-reading.Confirmation = confirmation
-got_from c s (telegram-reading.Token da sa) = other
-got_from c s (telegram-reading.Telegram f h start len) = pick (is_printers c f h) (got_by (service.read_of s mode.Dpv1)) other
-got_from c s (telegram-reading.Refused r) = nothing
+abbrev pub got_from : Settings → List ℕ → telegram.Reading → Got
+got_from c s (Ok telegram-reading.Confirmation) = confirmation
+got_from c s (Ok (telegram-reading.Token da sa)) = other
+got_from c s (Ok (telegram-reading.Telegram f h start len)) = pick (is_printers c f h) (got_by (service.read_of s mode.Dpv1)) other
+got_from c s (Err r) = nothing
 
 unfoldable pub got_in : Settings → (reply : List ℕ) → Got
 got_in c s = got_from c s (telegram.read_of s)
@@ -186,7 +186,7 @@ settings_verdict c =
     (pick (ltb 31 c.polls) (fault 12) fine)))))
 
 -- the book's own refusal
-abbrev pub book_verdict : book-type.Reading → Verdict
+abbrev pub book_verdict : book-format.Reading → Verdict
 book_verdict r = book-refusals.verdict_in r
 
 -- a state that no run leads to: at a template that the book has not, with more repeats or polls left than set, or with the
@@ -229,13 +229,13 @@ leaving a buffer = record { answer = a; buffer = buffer }
 -- the request stands at the front of the buffer; 11 where it does not fit
 abbrev pub acted : Move → (buffer : List ℕ) → Acted
 acted (go request o) buffer =
-    pick (ltb (length buffer) (length request)) (record { answer = action.Refused 11; buffer = buffer })
-    (record { answer = action.Send o (length request); buffer = over request buffer })
-acted (stop e) buffer = record { answer = action.End e; buffer = buffer }
+    pick (ltb (length buffer) (length request)) (record { answer = Err 11; buffer = buffer })
+    (record { answer = Ok (action.Send o (length request)); buffer = over request buffer })
+acted (stop e) buffer = record { answer = Ok (action.End e); buffer = buffer }
 
 abbrev pub step_by : Verdict → Move → (buffer : List ℕ) → Acted
 step_by fine m buffer = acted m buffer
-step_by (fault k) m buffer = record { answer = action.Refused k; buffer = buffer }
+step_by (fault k) m buffer = record { answer = Err k; buffer = buffer }
 
 unfoldable pub step_of : Settings → (book : List ℕ) → Controller → (reply buffer : List ℕ) → Acted
 step_of c book o reply buffer = step_by (verdict_of c book o) (move_of c (templates_of book) o reply) buffer

@@ -1,7 +1,7 @@
 -- The customer's third demand (document 01, "Demand 3 is one statement about the whole line"): what holds of every download that
 -- is not refused, a field for each sentence. The words stand in Words: they are about the sendings, and not about either
 -- machine's state.
-use Rattle.std.specs.Prelude.{ℕ, zero, suc, ◌≤◌, ◌<◌, ◌≡◌, Bool, true, false, not, List, [], ◌∷◌, eqb, ltb, length, get_or, take, drop}
+use Rattle.std.specs.Prelude.{ℕ, zero, suc, ◌≤◌, ◌<◌, ◌≡◌, Bool, true, false, not, List, [], ◌∷◌, eqb, ltb, length, get_or, take, drop, Ok}
 use Rattle.octets.specs.Choice.{pick, ◌and◌}
 use Rattle.book.specs.Contents.{Entry, InOrder}
 use Rattle.protocol.specs.Line.{Passage, Sending, stop, Damage}
@@ -13,7 +13,6 @@ use Rattle.protocol.specs.Verdicts.{Usable}
 use Rattle.protocol.specs.Endings.{is_done, is_no_opening, is_no_answer, is_not_ready, is_refused, is_strange, stops_at}
 use Rattle.protocol.specs.declared.controller.Ending.{Ending}
 use Rattle.protocol.specs.declared.controller.Settings.{Settings}
-use Rattle.protocol.specs.declared.download.Downloaded.TheVariants as downloaded
 
 -- the template at place i of the book, counted from 0
 abbrev pub At : List Entry → (i : ℕ) → Entry → Type 0
@@ -127,5 +126,5 @@ module _ (g : Given) (l : List Passage) (x : Station) where
 -- answers so with that number of sendings, and the lent slots are those of which Demand3 speaks.
 pub record Downloads (c : Settings) (book line not_yet diagnosis : List ℕ) (x : Station) (w : Whole) : Type 0 where
   pub demand : Demand3 (given c book not_yet diagnosis) (passages_of line) x
-  pub answer : let z : Config = final (given c book not_yet diagnosis) (passages_of line) x in w.answer ≡ downloaded.Ended demand.ending z.sent z.printer.printer
+  pub answer : let z : Config = final (given c book not_yet diagnosis) (passages_of line) x in w.answer ≡ Ok (record { ending = demand.ending; sent = z.sent; printer = z.printer.printer })
   pub slots : w.slots ≡ (final (given c book not_yet diagnosis) (passages_of line) x).printer.slots

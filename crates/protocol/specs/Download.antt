@@ -1,5 +1,5 @@
 -- The download (document 01, "Template book, printer, download"): the controller's step joined to the printer's along a line.
-use Rattle.std.specs.Prelude.{ℕ, ◌+◌, ◌*◌, List, [], ◌∷◌, eqb, ltb, length, get_or, take}
+use Rattle.std.specs.Prelude.{ℕ, ◌+◌, ◌*◌, List, [], ◌∷◌, eqb, ltb, length, get_or, take, Ok, Err, Result}
 use Rattle.octets.specs.Choice.{pick}
 use Rattle.octets.specs.Fixed.{judged}
 use Rattle.octets.specs.Front.{Verdict, fine, fault, over}
@@ -15,9 +15,12 @@ use Rattle.protocol.specs.declared.controller.Settings.{Settings}
 use Rattle.protocol.specs.declared.controller.Controller.{Controller}
 use Rattle.protocol.specs.declared.controller.Controller.TheVariants as controller
 use Rattle.protocol.specs.declared.controller.Ending.{Ending}
-use Rattle.protocol.specs.declared.download.Downloaded.{Downloaded}
-use Rattle.protocol.specs.declared.download.Downloaded.TheVariants as downloaded
+use Rattle.protocol.specs.declared.download.Downloaded as ended
 use Rattle.protocol.specs.declared.printer.Printer.{Printer}
+
+-- what a download came to, or a refusal's number
+abbrev pub Downloaded : Type 0
+Downloaded = Result ended.Downloaded ℕ
 
 -- what is given for a download and stays: the settings, the templates of the book, the number of "not yet" answers for each
 -- write, and the printer's diagnosis
@@ -106,8 +109,8 @@ leaving a lengths bodies reply request =
 
 -- how it ended. That it does is proved (Theorem): the second case never is.
 abbrev pub ended_by : Move → (sent : ℕ) → Printer → Downloaded
-ended_by (stop e) sent p = downloaded.Ended e sent p
-ended_by (go q o) sent p = downloaded.Refused 12
+ended_by (stop e) sent p = Ok (record { ending = e; sent = sent; printer = p })
+ended_by (go q o) sent p = Err 12
 
 abbrev pub whole_by : Config → List Sending → (request : List ℕ) → Whole
 whole_by z sent request =
@@ -120,7 +123,7 @@ whole_by z sent request =
 
 abbrev pub download_by : Verdict → Given → List Passage → Station → (request : List ℕ) → Whole
 download_by fine g l x request = whole_by (download g l x) (sendings g l x (bound g)) request
-download_by (fault k) g l x request = record { answer = downloaded.Refused k; slots = x.slots; reply = x.buffer; request = request }
+download_by (fault k) g l x request = record { answer = Err k; slots = x.slots; reply = x.buffer; request = request }
 
 unfoldable pub download_of : Settings → (book line not_yet diagnosis : List ℕ) → Station → (request : List ℕ) → Whole
 download_of c book l not_yet diagnosis x request =

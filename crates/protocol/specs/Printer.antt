@@ -1,6 +1,6 @@
 -- The printer's step (document 01, "Printer rules", first that fits): what a telegram is to the printer, what it does,
 -- and what it sends back.
-use Rattle.std.specs.Prelude.{ℕ, zero, suc, ◌%◌, ◌/◌, min, Bool, true, false, not, List, eqb, ltb, length}
+use Rattle.std.specs.Prelude.{ℕ, zero, suc, ◌%◌, ◌/◌, min, Bool, true, false, not, List, eqb, ltb, length, Ok, Err, Result}
 use Rattle.octets.specs.Choice.{pick, ◌and◌, ◌or◌}
 use Rattle.octets.specs.Front.{Verdict, fine, fault, over}
 use Rattle.octets.specs.Part.{part_of}
@@ -10,18 +10,13 @@ use Rattle.fdl.specs.Reading as telegram
 use Rattle.function_code.specs.declared.code.Class.{Class}
 use Rattle.function_code.specs.declared.code.Class.TheVariants as class
 use Rattle.fdl.specs.declared.telegram.Header.{Header}
-use Rattle.fdl.specs.declared.reading.Reading as telegram-type
 use Rattle.fdl.specs.declared.reading.Reading.TheVariants as telegram-reading
 use Rattle.diagnosis.specs.Reading as diagnosis-format
-use Rattle.diagnosis.specs.declared.reading.Reading as diagnosis-type
-use Rattle.diagnosis.specs.declared.reading.Reading.TheVariants as diagnosis-reading
 use Rattle.acyclic.specs.declared.calls.Call.{Call}
 use Rattle.acyclic.specs.declared.calls.Call.TheVariants as call
 use Rattle.content.specs.declared.fields.Content.{Content}
 use Rattle.content.specs.declared.fields.Content.TheVariants as content
 use Rattle.service.specs.Reading as service
-use Rattle.service.specs.declared.reading.Reading as service-type
-use Rattle.service.specs.declared.reading.Reading.TheVariants as service-reading
 use Rattle.protocol.specs.Bits.{bits_agree}
 use Rattle.protocol.specs.Slots.{Slots, written, too_long}
 use Rattle.protocol.specs.Telegrams.{bare_bytes, diagnosis_bytes, outcome_bytes}
@@ -31,8 +26,11 @@ use Rattle.protocol.specs.declared.printer.Outcome.TheVariants as outcome
 use Rattle.protocol.specs.declared.printer.Pending.{Pending}
 use Rattle.protocol.specs.declared.printer.Pending.TheVariants as pending
 use Rattle.protocol.specs.declared.printer.Printer.{Printer}
-use Rattle.protocol.specs.declared.printer.Reaction.{Reaction}
-use Rattle.protocol.specs.declared.printer.Reaction.TheVariants as reaction
+use Rattle.protocol.specs.declared.printer.Reaction as heard
+
+-- what the printer makes of a telegram, or a refusal's number
+abbrev pub Reaction : Type 0
+Reaction = Result heard.Reaction ℕ
 
 -- ---- what a telegram is to the printer
 
@@ -81,9 +79,9 @@ ask_of (content.SetPrm f) part = unknown
 ask_of content.ChkCfg part = unknown
 
 -- by the service reader; 10 is apart from its other refusals
-abbrev pub ask_by : List ℕ → service-type.Reading → Ask
-ask_by s (service-reading.Service f h w c start len) = ask_of c (part_of s start len)
-ask_by s (service-reading.Refused r) = pick (eqb r.number 10) unknown undecodable
+abbrev pub ask_by : List ℕ → service.Reading → Ask
+ask_by s (Ok found) = ask_of found.content (part_of s found.start found.len)
+ask_by s (Err r) = pick (eqb r 10) unknown undecodable
 
 -- send and request data (SRD), low or high
 abbrev pub is_srd : (fc : ℕ) → Bool
@@ -115,18 +113,18 @@ is_call class.Data = false
 is_call class.Reserved = false
 
 -- what was read is a call
-abbrev pub is_call_of : telegram-type.Reading → Bool
-is_call_of telegram-reading.Confirmation = false
-is_call_of (telegram-reading.Token da sa) = false
-is_call_of (telegram-reading.Telegram f h start len) = is_call (class_of h.fc)
-is_call_of (telegram-reading.Refused r) = false
+abbrev pub is_call_of : telegram.Reading → Bool
+is_call_of (Ok telegram-reading.Confirmation) = false
+is_call_of (Ok (telegram-reading.Token da sa)) = false
+is_call_of (Ok (telegram-reading.Telegram f h start len)) = is_call (class_of h.fc)
+is_call_of (Err r) = false
 
-abbrev pub received_by : (address : ℕ) → List ℕ → telegram-type.Reading → Received
-received_by address s telegram-reading.Confirmation = nothing
-received_by address s (telegram-reading.Token da sa) = nothing
-received_by address s (telegram-reading.Telegram f h start len) =
+abbrev pub received_by : (address : ℕ) → List ℕ → telegram.Reading → Received
+received_by address s (Ok telegram-reading.Confirmation) = nothing
+received_by address s (Ok (telegram-reading.Token da sa)) = nothing
+received_by address s (Ok (telegram-reading.Telegram f h start len)) =
     pick (is_call (class_of h.fc)) (pick (eqb h.da address) (called_by (class_of h.fc) s h) elsewhere) nothing
-received_by address s (telegram-reading.Refused r) = nothing
+received_by address s (Err r) = nothing
 
 unfoldable pub received_of : (address : ℕ) → List ℕ → Received
 received_of address s = received_by address s (telegram.read_of s)
@@ -299,9 +297,9 @@ hear diag not_yet s x = heard_by diag not_yet (received_of x.printer.address s) 
 
 -- ---- what is refused, before any change
 
-abbrev pub is_refused : diagnosis-type.Reading → Bool
-is_refused (diagnosis-reading.Diagnosis h blocks) = false
-is_refused (diagnosis-reading.Refused r) = true
+abbrev pub is_refused : diagnosis-format.Reading → Bool
+is_refused (Ok found) = false
+is_refused (Err r) = true
 
 unfoldable pub verdict_of : (diag : List ℕ) → Station → Verdict
 verdict_of diag x =
@@ -322,14 +320,14 @@ leaving r lengths bodies buffer = record { answer = r; slots = record { lengths 
 abbrev pub stepped : Heard → Stepped
 stepped h =
     record {
-      answer = reaction.Heard h.station.printer h.reply;
+      answer = Ok (record { printer = h.station.printer; reply = h.reply });
       slots = h.station.slots;
       buffer = h.station.buffer;
     }
 
 abbrev pub step_by : Verdict → (diag : List ℕ) (not_yet : ℕ) → (telegram : List ℕ) → Station → Stepped
 step_by fine diag not_yet s x = stepped (hear diag not_yet s x)
-step_by (fault k) diag not_yet s x = record { answer = reaction.Refused k; slots = x.slots; buffer = x.buffer }
+step_by (fault k) diag not_yet s x = record { answer = Err k; slots = x.slots; buffer = x.buffer }
 
 unfoldable pub step_of : (diag : List ℕ) (not_yet : ℕ) → (telegram : List ℕ) → Station → Stepped
 step_of diag not_yet s x = step_by (verdict_of diag x) diag not_yet s x

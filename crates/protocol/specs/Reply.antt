@@ -1,12 +1,11 @@
 -- What a reply is, in document 01's words: by the fields that framing reads and by the bytes of its user data. The laws of
 -- `MachineLaws/Got` and `MachineLaws/Moves` hold the controller to these words.
-use Rattle.std.specs.Prelude.{ℕ, ◌≤◌, ◌≡◌, Bool, true, false, List, [], ◌∷◌, length}
+use Rattle.std.specs.Prelude.{ℕ, ◌≤◌, ◌≡◌, Bool, true, false, List, [], ◌∷◌, length, Ok, Some}
 use Rattle.octets.specs.Part.{part_of}
 use Rattle.fdl.specs.Contents.{accepted}
 use Rattle.fdl.specs.Reading as telegram
 use Rattle.fdl.specs.declared.reading.Reading.TheVariants.{Telegram}
 use Rattle.fdl.specs.declared.telegram.Format.TheVariants.{Sd2}
-use Rattle.fdl.specs.declared.telegram.Sap.TheVariants.{Present}
 use Rattle.access.specs.Route.{header_with}
 use Rattle.acyclic.specs.Errors.{good_decode, good_code1}
 use Rattle.diagnosis.specs.Reading as diagnosis
@@ -23,7 +22,7 @@ module _ (c : Settings) where
   pub record FromPrinter (dsap ssap : ℕ) (user s : List ℕ) : Type 0 where
     pub start : ℕ
     pub len : ℕ
-    pub framed : telegram.read_of s ≡ Telegram Sd2 (header_with c.controller c.printer 0x08 (Present dsap) (Present ssap)) start len
+    pub framed : telegram.read_of s ≡ Ok (Telegram Sd2 (header_with c.controller c.printer 0x08 (Some dsap) (Some ssap)) start len)
     pub bytes : part_of s start len ≡ user
 
   -- the printer's diagnosis: from Slave_Diag, 60, and not refused

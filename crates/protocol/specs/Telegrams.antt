@@ -1,8 +1,7 @@
 -- The telegrams of a download: requests and replies, as bytes.
-use Rattle.std.specs.Prelude.{ℕ, Bool, true, false, List, []}
+use Rattle.std.specs.Prelude.{ℕ, Bool, true, false, List, [], None}
 use Rattle.fdl.specs.Writing.{telegram_of}
 use Rattle.fdl.specs.declared.telegram.Format.TheVariants.{Sd1, Sd2}
-use Rattle.fdl.specs.declared.telegram.Sap.TheVariants.{Absent}
 use Rattle.access.specs.Route.{header_of, header_with}
 use Rattle.access.specs.declared.table.Service.TheVariants as service
 use Rattle.acyclic.specs.declared.calls.Call.TheVariants as call
@@ -44,7 +43,7 @@ poll_bytes to from fcb = carrying (content.Dpv1Call call.Poll) to from (counted_
 
 -- bare ones in SD1
 abbrev pub bare_bytes : (to from function : ℕ) → List ℕ
-bare_bytes to from function = telegram_of Sd1 (header_with to from function Absent Absent) []
+bare_bytes to from function = telegram_of Sd1 (header_with to from function None None) []
 
 -- data as function 8 in SD2
 abbrev pub reply_code : ℕ

@@ -1,14 +1,11 @@
 -- What document 01 does not refuse, in its own inequalities: settings, a printer, a controller's step, a download. That each
 -- verdict is fine exactly there is proved (VerdictLaws).
-use Rattle.std.specs.Prelude.{ℕ, ◌-◌, ◌%◌, ◌≤◌, ◌<◌, ◌≡◌, Bool, false, List, [], ◌∷◌, eqb, length, get_or}
+use Rattle.std.specs.Prelude.{ℕ, ◌-◌, ◌%◌, ◌≤◌, ◌<◌, ◌≡◌, Bool, false, List, [], ◌∷◌, eqb, length, get_or, Ok, Err}
 use Rattle.octets.specs.Front.{fine}
-use Rattle.octets.specs.declared.Refusal.{Refusal}
 use Rattle.diagnosis.specs.Reading as diagnosis-format
 use Rattle.diagnosis.specs.declared.reading.Header.{Header}
-use Rattle.diagnosis.specs.declared.reading.Reading.TheVariants as diagnosis-reading
 use Rattle.book.specs.Contents.{templates_of}
 use Rattle.book.specs.Reading as book-format
-use Rattle.book.specs.declared.answers.Reading.TheVariants as book-reading
 use Rattle.protocol.specs.Line.{Passage, through, request_lost, reply_lost, request_damaged, reply_damaged, Damage}
 use Rattle.protocol.specs.Printer.{Station}
 use Rattle.protocol.specs.Download.{Given, passages_of, verdict_of}
@@ -29,16 +26,16 @@ pub record Settled (c : Settings) : Type 0 where
 
 -- a book, and a diagnosis, that its reader does not refuse
 abbrev pub Readable : (book : List ℕ) → Type 0
-Readable s = (r : Refusal) → book-format.read_of s ≡ book-reading.Refused r → ⊥
+Readable s = (r : ℕ) → book-format.read_of s ≡ Err r → ⊥
 
 abbrev pub Diagnosed : (diagnosis : List ℕ) → Type 0
-Diagnosed s = (r : Refusal) → diagnosis-format.read_of s ≡ diagnosis-reading.Refused r → ⊥
+Diagnosed s = (r : ℕ) → diagnosis-format.read_of s ≡ Err r → ⊥
 
 -- a diagnosis with what it is read as
 pub record Valid (diag : List ℕ) : Type 0 where
   pub header : Header
   pub blocks : ℕ
-  pub read : diagnosis-format.read_of diag ≡ diagnosis-reading.Diagnosis header blocks
+  pub read : diagnosis-format.read_of diag ≡ Ok (record { header = header; blocks = blocks })
 
 -- a printer: "A printer address above 126, a slot length above 200 or a refused diagnosis gives 12, a reply buffer under 255
 -- bytes 11"

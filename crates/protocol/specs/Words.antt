@@ -1,11 +1,10 @@
 -- The customer's words (document 01, "A sending is heard unless .."), over the sendings of a download alone: their bytes,
 -- what the line did, and the replies as they came back.
-use Rattle.std.specs.Prelude.{ℕ, zero, suc, ◌+◌, ◌≤◌, ◌≡◌, Bool, true, false, not, List, [], ◌∷◌, eqb, length, get_or, drop}
+use Rattle.std.specs.Prelude.{ℕ, zero, suc, ◌+◌, ◌≤◌, ◌≡◌, Bool, true, false, not, List, [], ◌∷◌, eqb, length, get_or, drop, Ok, Err}
 use Rattle.octets.specs.Choice.{pick, ◌and◌, ◌or◌}
 use Rattle.octets.specs.declared.Mode.TheVariants as mode
 use Rattle.fdl.specs.Contents.{accepted}
 use Rattle.fdl.specs.Reading as telegram
-use Rattle.fdl.specs.declared.reading.Reading as telegram-type
 use Rattle.fdl.specs.declared.reading.Reading.TheVariants as telegram-reading
 use Rattle.service.specs.Reading as service
 use Rattle.protocol.specs.Line.{Passage, through, request_lost, reply_lost, request_damaged, reply_damaged, Sending}
@@ -33,11 +32,11 @@ arrives reply_lost = true
 arrives (request_damaged bytes) = false
 arrives (reply_damaged bytes) = true
 
-abbrev pub names_station : (address : ℕ) → telegram-type.Reading → Bool
-names_station a telegram-reading.Confirmation = false
-names_station a (telegram-reading.Token da sa) = false
-names_station a (telegram-reading.Telegram f h start len) = eqb h.da a
-names_station a (telegram-reading.Refused r) = false
+abbrev pub names_station : (address : ℕ) → telegram.Reading → Bool
+names_station a (Ok telegram-reading.Confirmation) = false
+names_station a (Ok (telegram-reading.Token da sa)) = false
+names_station a (Ok (telegram-reading.Telegram f h start len)) = eqb h.da a
+names_station a (Err r) = false
 
 -- bytes that framing refuses, which count as no telegram
 abbrev pub FramingRefuses : List ℕ → Type 0

@@ -49,5 +49,4 @@ pub enum Ending {
 pub enum Action {
     Send { controller: Controller, request: u8 },
     End(Ending),
-    Refused(u8),
 }

@@ -2,13 +2,10 @@
 use crate::controller::Ending;
 use crate::printer::Printer;
 
-// How it ended, after how many sendings, and the printer then; or a refusal, which changes nothing.
+// What a download came to.
 #[derive(Clone, Copy)]
-pub enum Downloaded {
-    Ended {
-        ending: Ending,
-        sent: u16,
-        printer: Printer,
-    },
-    Refused(u8),
+pub struct Downloaded {
+    pub ending: Ending,
+    pub sent: u16,
+    pub printer: Printer,
 }

@@ -3,12 +3,10 @@
 // the customer's third demand; nothing here runs.
 #![tactic(auto)]
 
-mod check;
 mod controller;
 mod download;
 mod printer;
 
-pub use check::Check;
 pub use controller::{Action, Controller, Ending, Job, Settings};
 pub use download::Downloaded;
 pub use printer::{Outcome, Pending, Printer, Reaction};

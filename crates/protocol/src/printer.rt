@@ -30,10 +30,9 @@ pub struct Printer {
     pub writes: u8,
 }
 
-// The printer after a telegram, and how many bytes at the front of the reply buffer it sends, 0 for
-// no reply; or a refusal, which changes nothing.
+// What the printer makes of a telegram: its next state, and how many bytes of the reply buffer are its reply, 0 for none.
 #[derive(Clone, Copy)]
-pub enum Reaction {
-    Heard { printer: Printer, reply: u8 },
-    Refused(u8),
+pub struct Reaction {
+    pub printer: Printer,
+    pub reply: u8,
 }

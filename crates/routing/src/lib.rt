@@ -5,7 +5,7 @@
 ghost use Rattle.std.specs.Prelude.{◌≡◌};
 ghost use Rattle.access.specs.Route.{uncounted_kind, kind_by, kind_of, named_by, is_global_control, call_route, command_route, answer_from, answer_route, points_with, points_by, way_by, route_by, header_with, header_of, service_route};
 
-use access::{Answering, Kind, Named, Points, Route, Service};
+use access::{Answering, Kind, Points, Route, Service};
 use access_table::{find, points_of};
 use fdl::{Header, Sap};
 use function_code::{Class, class_of};
@@ -16,8 +16,7 @@ fn uncounted_kind(fc: u8) -> Kind
 {
     let function = fc % 16;
     match function {
-        4 => Kind::Command,
-        6 => Kind::Command,
+        4 | 6 => Kind::Command,
         _ => Kind::Other,
     }
 }
@@ -43,46 +42,29 @@ fn kind_of(fc: u8) -> Kind
 }
 
 // The service of the slave's and the master's access point. One of two names none.
-fn named_by(slave: Sap, master: Sap) -> Named
+fn named_by(slave: Sap, master: Sap) -> Option<Service>
     ensures { result ≡ named_by slave master }
 {
-    match slave {
-        Sap::Absent => match master {
-            Sap::Absent => Named::Is(Service::DataExchange),
-            Sap::Present(_) => Named::Nothing,
-        },
-        Sap::Present(slave) => match master {
-            Sap::Absent => Named::Nothing,
-            Sap::Present(master) => find(slave, master),
-        },
+    match (slave, master) {
+        (None, None) => Some(Service::DataExchange),
+        (Some(slave), Some(master)) => find(slave, master),
+        _ => None,
     }
 }
 
 fn is_global_control(service: Service) -> bool
     ensures { result ≡ is_global_control service }
 {
-    match service {
-        Service::DataExchange => false,
-        Service::Dpv1 => false,
-        Service::ExtUserPrm => false,
-        Service::SetSlaveAdr => false,
-        Service::RdInp => false,
-        Service::RdOutp => false,
-        Service::GlobalControl => true,
-        Service::GetCfg => false,
-        Service::SlaveDiag => false,
-        Service::SetPrm => false,
-        Service::ChkCfg => false,
-    }
+    service == Service::GlobalControl
 }
 
 // An opening or counted call carries any service but Global_Control.
-fn call_route(named: Named) -> Route
+fn call_route(named: Option<Service>) -> Route
     ensures { result ≡ call_route named }
 {
     match named {
-        Named::Nothing => Route::Nowhere,
-        Named::Is(service) => {
+        None => Route::Nowhere,
+        Some(service) => {
             if is_global_control(service) {
                 return Route::Nowhere;
             }
@@ -92,12 +74,12 @@ fn call_route(named: Named) -> Route
 }
 
 // Functions 4 and 6 carry Global_Control alone.
-fn command_route(named: Named) -> Route
+fn command_route(named: Option<Service>) -> Route
     ensures { result ≡ command_route named }
 {
     match named {
-        Named::Nothing => Route::Nowhere,
-        Named::Is(service) => {
+        None => Route::Nowhere,
+        Some(service) => {
             if is_global_control(service) {
                 return Route::Call(service);
             }
@@ -125,12 +107,12 @@ fn answer_from(service: Service) -> Route
     }
 }
 
-fn answer_route(named: Named) -> Route
+fn answer_route(named: Option<Service>) -> Route
     ensures { result ≡ answer_route named }
 {
     match named {
-        Named::Nothing => Route::Nowhere,
-        Named::Is(service) => answer_from(service),
+        None => Route::Nowhere,
+        Some(service) => answer_from(service),
     }
 }
 
@@ -181,7 +163,7 @@ fn points_by(kind: Kind, dsap: Sap, ssap: Sap) -> Points
     }
 }
 
-fn way_by(kind: Kind, named: Named) -> Route
+fn way_by(kind: Kind, named: Option<Service>) -> Route
     ensures { result ≡ way_by kind named }
 {
     match kind {
@@ -214,5 +196,5 @@ pub fn route_by(class: Class, header: Header) -> Route
 pub fn route_for(service: Service, fc: u8) -> Route
     ensures { result ≡ service_route service fc }
 {
-    way_by(kind_of(fc), Named::Is(service))
+    way_by(kind_of(fc), Some(service))
 }

@@ -1,5 +1,5 @@
 -- The customer's second demand for whole service telegrams, and what a reading says of its header.
-use Rattle.std.specs.Prelude.{ℕ, ◌+◌, ◌≤◌, ◌<◌, ◌≡◌, refl, true, false, List, [], ◌∷◌, length, get_or, set}
+use Rattle.std.specs.Prelude.{ℕ, ◌+◌, ◌≤◌, ◌<◌, ◌≡◌, refl, true, false, List, [], ◌∷◌, length, get_or, set, Ok}
 use Rattle.std.proofs.Common.{subst}
 use Rattle.octets.specs.Bytes.{Bytes}
 use Rattle.octets.specs.Front.{fine}
@@ -34,7 +34,6 @@ use Rattle.service.specs.Reading.{read_of, accepted, goes}
 use Rattle.service.specs.Writing.{header_for, telegram_for, verdict_of, route_for, way_by}
 use Rattle.service.specs.declared.reading.Way.{Way}
 use Rattle.service.specs.declared.reading.Way.TheVariants as way
-use Rattle.service.specs.declared.reading.Reading.TheVariants.{Service}
 
 -- (a) What is written reads back as the same format, addresses, function code, fields and part: in the version of its
 -- parameters, where it has any. The service stands at the access points that it was written with. (An ident number has two bytes.)
@@ -46,10 +45,10 @@ module _ (f : Format) (da sa fc : ℕ) (c : Content) (part : List ℕ) where
   place = user_start f head + fixed_length c
 
   pub reads_back : (m : Mode) → IdentFits c → ModeFits c m → verdict_of f da sa fc c part ≡ fine
-      → (read_of (telegram_for f da sa fc c part) m ≡ Service f head (way_by (route_of head)) c place (length part)) × (part_of (telegram_for f da sa fc c part) place (length part) ≡ part)
+      → (read_of (telegram_for f da sa fc c part) m ≡ Ok (record { format = f; header = head; way = way_by (route_of head); content = c; start = place; len = length part })) × (part_of (telegram_for f da sa fc c part) place (length part) ≡ part)
   reads_back m i v e = (back f da sa fc c part m i v e, part_back f da sa fc c part m i v e)
 
-module _ (s : List ℕ) (bytes : Bytes s) (m : Mode) {f : Format} {h : Header} {w : Way} {c : Content} {start len : ℕ} (e : read_of s m ≡ Service f h w c start len) where
+module _ (s : List ℕ) (bytes : Bytes s) (m : Mode) {f : Format} {h : Header} {w : Way} {c : Content} {start len : ℕ} (e : read_of s m ≡ Ok (record { format = f; header = h; way = w; content = c; start = start; len = len })) where
   -- (b) What is read may be written, and gives the same bytes again.
   pub writes_back : (verdict_of f h.da h.sa h.fc c (part_of s start len) ≡ fine) × (telegram_for f h.da h.sa h.fc c (part_of s start len) ≡ s)
   writes_back = let k = holds_of s bytes m e in (k.taken, k.same)
@@ -68,7 +67,7 @@ module _ (s : List ℕ) (bytes : Bytes s) (m : Mode) {f : Format} {h : Header} {
 
 -- The way is that of the header's route.
 pub way_routed : (s : List ℕ) (m : Mode) {f : Format} {h : Header} {w : Way} {c : Content} {start len : ℕ}
-    → read_of s m ≡ Service f h w c start len → goes w (route_of h) ≡ true
+    → read_of s m ≡ Ok (record { format = f; header = h; way = w; content = c; start = start; len = len }) → goes w (route_of h) ≡ true
 unfolding read_of
 way_routed s m e = subst Goes e (service_goes s m (telegram.read_of s))
 
@@ -82,7 +81,7 @@ one_byte_changed s b m e i v h w ne n =
 
 -- An answer is read only from 51, 56, 57, 59 and 60, with both access points, or without any.
 pub answers_only_from : (s : List ℕ) → Bytes s → (m : Mode) {f : Format} {h : Header} {c : Content} {start len : ℕ}
-    → read_of s m ≡ Service f h way.Answer c start len → answers_at h.ssap h.dsap ≡ true
+    → read_of s m ≡ Ok (record { format = f; header = h; way = way.Answer; content = c; start = start; len = len }) → answers_at h.ssap h.dsap ≡ true
 answers_only_from s bytes m e = (holds_of s bytes m e).comes
 
 -- ---- each law holds of something

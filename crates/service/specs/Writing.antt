@@ -1,10 +1,8 @@
 -- Writing a whole telegram for a service (document 01, "Refusal numbers"): any bad telegram field gives 12, function code and data
 -- length too; then the service its own number, 10 first; then 11.
-use Rattle.std.specs.Prelude.{ℕ, List}
-use Rattle.octets.specs.Front.{Verdict, fault}
+use Rattle.std.specs.Prelude.{ℕ, List, Ok, Err}
+use Rattle.octets.specs.Front.{Verdict, fault, Written}
 use Rattle.octets.specs.Fixed.{judged}
-use Rattle.octets.specs.declared.Written.{Written}
-use Rattle.octets.specs.declared.Written.TheVariants.{Stored, Refused}
 use Rattle.fdl.specs.Writing as telegram
 use Rattle.fdl.specs.declared.telegram.Format.{Format}
 use Rattle.fdl.specs.declared.telegram.Header.{Header}
@@ -54,5 +52,5 @@ verdict_of f da sa fc c part =
 
 -- data whose writer was lent no room: its own refusal, else 11
 abbrev pub no_room : Written → Written
-no_room (Stored n) = Refused 11
-no_room (Refused k) = Refused k
+no_room (Ok n) = Err 11
+no_room (Err k) = Err k

@@ -1,6 +1,6 @@
 -- The fields of a content name it again; what fields name has them in every place that it has; and which way is right.
 use Prim.Native.Nat.{ℕ, ◌%◌}
-use Rattle.std.specs.Prelude.{◌≡◌, false, take, replicate, ltb}
+use Rattle.std.specs.Prelude.{◌≡◌, false, take, replicate, ltb, Some, None}
 use Rattle.std.proofs.Math.Path.{refl, ap}
 use Rattle.std.proofs.Common.{sym, subst, arith}
 use Rattle.std.proofs.Math.Bool.{Bool, true}
@@ -21,8 +21,7 @@ use Rattle.function_code.specs.Code.{class_of}
 use Rattle.function_code.specs.declared.code.Class.{Class}
 use Rattle.function_code.specs.declared.code.Class.TheVariants as class
 use Rattle.fdl.specs.declared.telegram.Header.{Header}
-use Rattle.fdl.specs.declared.telegram.Sap.{Sap}
-use Rattle.fdl.specs.declared.telegram.Sap.TheVariants.{Present}
+use Rattle.fdl.specs.Sap.{Sap}
 use Rattle.address_change.specs.declared.AddressChange.{AddressChange}
 use Rattle.control.specs.declared.command.GlobalCommand.{GlobalCommand}
 use Rattle.diagnosis.specs.declared.reading.Header as diagnosis-type
@@ -40,8 +39,7 @@ use Rattle.access.specs.Route as access
 use Rattle.access.specs.Route.{is_global_control, kind_by, kind_of, call_route, command_route, answer_route, route_by, route_of}
 use Rattle.access.specs.declared.table.Service.{Service}
 use Rattle.access.specs.declared.table.Service.TheVariants as service
-use Rattle.access.specs.declared.table.Named as access-named
-use Rattle.access.specs.declared.table.Named.TheVariants as listed
+use Rattle.access.specs.Table as access-named
 use Rattle.access.specs.declared.route.Kind.{Kind}
 use Rattle.access.specs.declared.route.Route.{Route}
 use Rattle.access.specs.declared.route.Route.TheVariants as route
@@ -358,26 +356,26 @@ Goes answer (route.Answer a) = answer ≡ true
 Goes answer route.Nowhere = Unit
 
 call_goes : (n : access-named.Named) → Goes false (call_route n)
-call_goes listed.Nothing = tt
-call_goes (listed.Is s) = by_pick (Goes false) (is_global_control s) (λ _. tt) (λ _. refl)
+call_goes None = tt
+call_goes (Some s) = by_pick (Goes false) (is_global_control s) (λ _. tt) (λ _. refl)
 
 command_goes : (n : access-named.Named) → Goes false (command_route n)
-command_goes listed.Nothing = tt
-command_goes (listed.Is s) = by_pick (Goes false) (is_global_control s) (λ _. refl) (λ _. tt)
+command_goes None = tt
+command_goes (Some s) = by_pick (Goes false) (is_global_control s) (λ _. refl) (λ _. tt)
 
 answer_goes : (n : access-named.Named) → Goes true (answer_route n)
-answer_goes listed.Nothing = tt
-answer_goes (listed.Is service.DataExchange) = refl
-answer_goes (listed.Is service.Dpv1) = refl
-answer_goes (listed.Is service.ExtUserPrm) = tt
-answer_goes (listed.Is service.SetSlaveAdr) = tt
-answer_goes (listed.Is service.RdInp) = refl
-answer_goes (listed.Is service.RdOutp) = refl
-answer_goes (listed.Is service.GlobalControl) = tt
-answer_goes (listed.Is service.GetCfg) = refl
-answer_goes (listed.Is service.SlaveDiag) = refl
-answer_goes (listed.Is service.SetPrm) = tt
-answer_goes (listed.Is service.ChkCfg) = tt
+answer_goes None = tt
+answer_goes (Some service.DataExchange) = refl
+answer_goes (Some service.Dpv1) = refl
+answer_goes (Some service.ExtUserPrm) = tt
+answer_goes (Some service.SetSlaveAdr) = tt
+answer_goes (Some service.RdInp) = refl
+answer_goes (Some service.RdOutp) = refl
+answer_goes (Some service.GlobalControl) = tt
+answer_goes (Some service.GetCfg) = refl
+answer_goes (Some service.SlaveDiag) = refl
+answer_goes (Some service.SetPrm) = tt
+answer_goes (Some service.ChkCfg) = tt
 
 goes_by : (x : Class) (fc : ℕ) (dsap ssap : Sap) → Goes (is_answer x) (route_by (kind_by x fc) dsap ssap)
 goes_by class.Opening fc dsap ssap = call_goes (access.named_by dsap ssap)
@@ -406,7 +404,7 @@ pub record Examples : Type 0 where
       ≡ named.Content (content.SetPrm (record { flags = 8; factor1 = 1; factor2 = 10; response = record { 0 = 11 }; ident = 0x1234; groups = 3; extension = extension.Dpv1 4 1 16 }))
   pub call_way : is_answer (class_of 0x5C) ≡ false
   pub answer_way : is_answer (class_of 0x08) ≡ true
-  pub write_routed : route_of (record { da = 7; sa = 2; fc = 0x5C; dsap = Present 51; ssap = Present 51 }) ≡ route.Call service.Dpv1
+  pub write_routed : route_of (record { da = 7; sa = 2; fc = 0x5C; dsap = Some 51; ssap = Some 51 }) ≡ route.Call service.Dpv1
 
 pub examples : Examples
 unfolding class_of look services kind_of route_of call_named content_by dpv1_in diagnosis_in parameters_in

@@ -3,6 +3,7 @@
 #![tactic(auto)]
 
 ghost use Rattle.std.specs.Prelude.{◌≡◌, true, ◌+◌, ◌≤◌, ltb, length};
+ghost use Rattle.octets.specs.Refusals.{told};
 ghost use Rattle.octets.specs.Choice.{pick};
 ghost use Rattle.octets.specs.Front.{answer_by, held_by};
 ghost use Rattle.fdl.specs.Around.{good_fields};
@@ -14,27 +15,17 @@ ghost use Rattle.service.specs.Writing.{way_by, way_verdict, verdict_of, telegra
 use access::Route;
 use content::Content;
 use fdl::{Format, Header};
-use octets::Written;
+use octets::Refusal;
 use service::Way;
 
 // Writes the user data at the front of out.
-fn write_data(way: Way, content: Content, part: &[u8], out: &mut [u8]) -> Written
-    ensures answer { result ≡ answer_by (way_verdict way content part.now) (bytes_for content part.now) (length out.old) }
+fn write_data(way: Way, content: Content, part: &[u8], out: &mut [u8]) -> Result<usize, Refusal>
+    ensures answer { told result ≡ answer_by (way_verdict way content part.now) (bytes_for content part.now) (length out.old) }
     ensures bytes { out.new ≡ held_by (way_verdict way content part.now) (bytes_for content part.now) out.old }
 {
     match way {
         Way::Call => content_writer::write_call(content, part, out),
         Way::Answer => content_writer::write_answer(content, part, out),
-    }
-}
-
-// The answer where the telegram has no room, by what the data's writer says without any.
-fn no_room(written: Written) -> Written
-    ensures { result ≡ no_room written }
-{
-    match written {
-        Written::Stored(_) => Written::Refused(11),
-        Written::Refused(number) => Written::Refused(number),
     }
 }
 
@@ -60,9 +51,9 @@ fn write_way(
     len: usize,
     part: &[u8],
     out: &mut [u8],
-) -> Written
+) -> Result<usize, Refusal>
     requires { (len ≡ fixed_length content + length part.now) × (good_fields format header len ≡ true) }
-    ensures answer { result ≡ answer_by (way_verdict way content part.now) (telegram_of format header (bytes_for content part.now)) (length out.old) }
+    ensures answer { told result ≡ answer_by (way_verdict way content part.now) (telegram_of format header (bytes_for content part.now)) (length out.old) }
     ensures bytes { out.new ≡ held_by (way_verdict way content part.now) (telegram_of format header (bytes_for content part.now)) out.old }
 {
     let start = framing::user_start(format, header);
@@ -71,13 +62,11 @@ fn write_way(
     let from = lent_from(room, whole, start);
     let written = write_data(way, content, part, &mut out[from..]);
     if room < whole {
-        no_room(written)
-    } else {
-        match written {
-            Written::Stored(stored) => fdl_writer::write_around(format, header, stored, out),
-            Written::Refused(number) => Written::Refused(number),
-        }
+        written?;
+        return Err(Refusal::NoRoom);
     }
+    let stored = written?;
+    fdl_writer::write_around(format, header, stored, out)
 }
 
 // The way of a route that leads somewhere; one that leads nowhere is refused before.
@@ -101,8 +90,8 @@ pub fn write(
     content: Content,
     part: &[u8],
     out: &mut [u8],
-) -> Written
-    ensures answer { result ≡ answer_by (verdict_of format da sa fc content part.now) (telegram_for format da sa fc content part.now) (length out.old) }
+) -> Result<usize, Refusal>
+    ensures answer { told result ≡ answer_by (verdict_of format da sa fc content part.now) (telegram_for format da sa fc content part.now) (length out.old) }
     ensures bytes { out.new ≡ held_by (verdict_of format da sa fc content part.now) (telegram_for format da sa fc content part.now) out.old }
 {
     let service = content::service_of(content);
@@ -111,12 +100,12 @@ pub fn write(
     if framing::writable_with(format, header, fixed, part.len()) {
         let route = routing::route_for(service, fc);
         if let Route::Nowhere = route {
-            Written::Refused(10)
+            Err(Refusal::NoService)
         } else {
             let len = fixed + part.len();
             write_way(way_of(route), format, header, content, len, part, out)
         }
     } else {
-        Written::Refused(12)
+        Err(Refusal::Field)
     }
 }

@@ -2,7 +2,6 @@
 ghost use Rattle.std.specs.Prelude.{◌<◌};
 
 use crate::text::{decimal, line_end, text};
-use configuration::Reading;
 use std::io;
 
 // A module's bytes on one side: where they begin, and where the next module's do.
@@ -48,7 +47,7 @@ fn span_at(offsets: &[u16; 256], i: usize) -> Span
 }
 
 // The library stores the offsets of the modules, fewer than a telegram has bytes. Behind them the
-// lists keep the totals, where the last module ends.
+// lists keep the totals, where the last module ends. A module lies between two places of each list, so the loop goes by places.
 fn module_lines(
     rt: &impl Print,
     bytes: &[u8],
@@ -58,7 +57,7 @@ fn module_lines(
 ) -> io::Result<()> {
     let mut input_offsets = [inputs; 256];
     let mut output_offsets = [outputs; 256];
-    configuration_reader::offsets(bytes, &mut input_offsets, &mut output_offsets);
+    let _ = configuration_reader::offsets(bytes, &mut input_offsets, &mut output_offsets);
     for i in 0..255 {
         if i == modules {
             return Ok(());
@@ -74,17 +73,17 @@ fn module_lines(
 }
 
 // Nothing where the bytes are no configuration.
+#[tactic(auto, unfolding(configuration::specs::Reading::read_of, configuration::specs::Reading::within_limit))]
 pub(crate) fn configuration_lines(rt: &impl Print, bytes: &[u8]) -> io::Result<()> {
-    let reading = configuration_reader::read(bytes);
-    match reading {
-        Reading::Configuration {
-            modules,
-            inputs,
-            outputs,
-        } => {
-            total_line(rt, modules, inputs, outputs)?;
-            module_lines(rt, bytes, modules, inputs as u16, outputs as u16)
-        }
-        Reading::Refused(_) => Ok(()),
-    }
+    let Ok(found) = configuration_reader::read(bytes) else {
+        return Ok(());
+    };
+    total_line(rt, found.modules, found.inputs, found.outputs)?;
+    module_lines(
+        rt,
+        bytes,
+        found.modules,
+        found.inputs as u16,
+        found.outputs as u16,
+    )
 }

@@ -1,7 +1,7 @@
 // The answer of Slave_Diag: its flags, master and ident number, and a line for each block.
 use crate::field_lines::{flag_line, ident_line, number_line};
 use crate::text::{decimal, decimal8, hex_bytes, line_end, text};
-use diagnosis::{Block, Channel, Header, Lowest, Step};
+use diagnosis::{Block, Channel, Header, Step};
 use std::io;
 
 fn status1_lines(rt: &impl Print, status: u8) -> io::Result<()> {
@@ -36,11 +36,11 @@ fn device_words(rt: &impl Print, bytes: &[u8]) -> io::Result<()> {
     hex_bytes(rt, bytes)
 }
 
-fn module_words(rt: &impl Print, set: usize, lowest: Lowest) -> io::Result<()> {
+fn module_words(rt: &impl Print, set: usize, lowest: Option<usize>) -> io::Result<()> {
     text(rt, b"module block, ")?;
     match lowest {
-        Lowest::Nothing => text(rt, b"none reports"),
-        Lowest::Module(number) => {
+        None => text(rt, b"none reports"),
+        Some(number) => {
             decimal(rt, set)?;
             text(rt, b" report, lowest ")?;
             decimal(rt, number)
@@ -118,8 +118,7 @@ fn block_line(rt: &impl Print, block: Block, user: &[u8]) -> io::Result<()> {
 fn block_lines(rt: &impl Print, user: &[u8]) -> io::Result<()> {
     let mut position = diagnosis_walk::first();
     for _ in 0..256 {
-        let step = diagnosis_walk::next(user, position);
-        let Step::Block(block, next) = step else {
+        let Ok(Step::Block(block, next)) = diagnosis_walk::next(user, position) else {
             return Ok(());
         };
         block_line(rt, block, user)?;

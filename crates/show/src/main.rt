@@ -24,7 +24,11 @@ use std::io::Read;
 
 // The lines for these bytes.
 fn lines(rt: &impl Print, bytes: &[u8]) -> io::Result<()> {
-    match fdl_reader::read(bytes) {
+    let reading = match fdl_reader::read(bytes) {
+        Ok(reading) => reading,
+        Err(refusal) => return refused_line(rt, refusal),
+    };
+    match reading {
         Reading::Confirmation => confirmation_line(rt),
         Reading::Token { da, sa } => token_line(rt, da, sa),
         Reading::Telegram {
@@ -37,7 +41,6 @@ fn lines(rt: &impl Print, bytes: &[u8]) -> io::Result<()> {
             telegram_line(rt, format, header, user)?;
             service_lines(rt, bytes, user)
         }
-        Reading::Refused(refusal) => refused_line(rt, refusal.number),
     }
 }
 
@@ -47,11 +50,10 @@ fn read_full(input: &mut impl Read, buf: &mut [u8]) -> io::Result<usize>
 {
     let mut done = 0;
     while done < buf.len() {
-        let n = input.read(&mut buf[done..])?;
-        if n == 0 {
-            break;
+        match input.read(&mut buf[done..])? {
+            0 => break,
+            n => done += n,
         }
-        done += n;
     }
     Ok(done)
 }

@@ -45,11 +45,9 @@ fn status_line(rt: &impl Print, extension: Extension) -> io::Result<()> {
 pub(crate) fn parameter_lines(rt: &impl Print, fields: Parameters, user: &[u8]) -> io::Result<()> {
     flag_lines(rt, fields.flags)?;
     watchdog_line(rt, parameters::watchdog(fields))?;
-    let response = fields.response;
-    response_line(rt, response)?;
+    response_line(rt, fields.response)?;
     ident_line(rt, fields.ident)?;
     group_line(rt, fields.groups)?;
-    let extension = fields.extension;
-    status_line(rt, extension)?;
+    status_line(rt, fields.extension)?;
     bytes_line(rt, b"user data", user)
 }

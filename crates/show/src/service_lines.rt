@@ -7,23 +7,21 @@ use crate::field_lines::{count_line, number_line};
 use crate::parameter_lines::parameter_lines;
 use crate::text::text;
 use content::Content;
-use octets::Mode;
-use service::{Reading, Way};
+use octets::{Mode, Refusal};
+use service::Way;
 use std::io;
 
 fn service_name(rt: &impl Print, content: &Content) -> io::Result<()> {
     match content {
         Content::DataExchange => text(rt, b"Data_Exchange"),
-        Content::Dpv1Call(_) => text(rt, b"DPV1"),
-        Content::Dpv1Answer(_) => text(rt, b"DPV1"),
+        Content::Dpv1Call(_) | Content::Dpv1Answer(_) => text(rt, b"DPV1"),
         Content::ExtUserPrm => text(rt, b"Ext_User_Prm"),
         Content::SetSlaveAdr(_) => text(rt, b"Set_Slave_Adr"),
         Content::RdInp => text(rt, b"Rd_Inp"),
         Content::RdOutp => text(rt, b"Rd_Outp"),
         Content::GlobalControl(_) => text(rt, b"Global_Control"),
         Content::GetCfg => text(rt, b"Get_Cfg"),
-        Content::SlaveDiagCall => text(rt, b"Slave_Diag"),
-        Content::SlaveDiag(_) => text(rt, b"Slave_Diag"),
+        Content::SlaveDiagCall | Content::SlaveDiag(_) => text(rt, b"Slave_Diag"),
         Content::SetPrm(_) => text(rt, b"Set_Prm"),
         Content::ChkCfg => text(rt, b"Chk_Cfg"),
     }
@@ -67,13 +65,11 @@ fn content_lines(
     part: &[u8],
 ) -> io::Result<()> {
     match content {
-        Content::DataExchange => data_length(rt, part),
+        Content::DataExchange | Content::ExtUserPrm => data_length(rt, part),
         Content::Dpv1Call(call) => call_lines(rt, call, part),
         Content::Dpv1Answer(answer) => answer_lines(rt, answer, part),
-        Content::ExtUserPrm => data_length(rt, part),
         Content::SetSlaveAdr(change) => address_lines(rt, change),
-        Content::RdInp => read_back(rt, way, part),
-        Content::RdOutp => read_back(rt, way, part),
+        Content::RdInp | Content::RdOutp => read_back(rt, way, part),
         Content::GlobalControl(command) => command_lines(rt, command),
         Content::GetCfg => configuration_back(rt, way, part),
         Content::SlaveDiagCall => Ok(()),
@@ -83,10 +79,10 @@ fn content_lines(
     }
 }
 
-// Nothing for 10: the telegram carries no service.
-fn refused_line(rt: &impl Print, number: u8) -> io::Result<()> {
-    if number != 10 {
-        number_line(rt, b"service refused", number)?;
+// Nothing where the telegram carries no service.
+fn refused_line(rt: &impl Print, refusal: Refusal) -> io::Result<()> {
+    if refusal != Refusal::NoService {
+        number_line(rt, b"service refused", refusal.number())?;
     }
     Ok(())
 }
@@ -94,17 +90,11 @@ fn refused_line(rt: &impl Print, number: u8) -> io::Result<()> {
 // The lines of the service that a telegram with these user data carries. Parameters are read as DPV1.
 pub(crate) fn service_lines(rt: &impl Print, bytes: &[u8], user: &[u8]) -> io::Result<()> {
     match service_reader::read(bytes, Mode::Dpv1) {
-        Reading::Service {
-            format: _,
-            header: _,
-            way,
-            content,
-            start,
-            len,
-        } => {
-            service_line(rt, &content, &way)?;
-            content_lines(rt, content, way, user, octets::part(bytes, start, len))
+        Ok(found) => {
+            service_line(rt, &found.content, &found.way)?;
+            let part = octets::part(bytes, found.start, found.len);
+            content_lines(rt, found.content, found.way, user, part)
         }
-        Reading::Refused(refusal) => refused_line(rt, refusal.number),
+        Err(refusal) => refused_line(rt, refusal),
     }
 }

@@ -1,6 +1,7 @@
 // The first line: the telegram's kind and its fields.
 use crate::text::{decimal8, hex, hex_bytes, line_end, text};
 use fdl::{Format, Header, Sap};
+use octets::Refusal;
 use std::io;
 
 fn addresses(rt: &impl Print, da: u8, sa: u8) -> io::Result<()> {
@@ -25,22 +26,18 @@ fn function_code(rt: &impl Print, fc: u8) -> io::Result<()> {
 
 // Nothing where there is no access point.
 fn access_point(rt: &impl Print, name: &[u8], sap: Sap) -> io::Result<()> {
-    match sap {
-        Sap::Absent => Ok(()),
-        Sap::Present(number) => {
-            text(rt, name)?;
-            decimal8(rt, number)
-        }
+    if let Some(number) = sap {
+        text(rt, name)?;
+        decimal8(rt, number)?;
     }
+    Ok(())
 }
 
 fn header_fields(rt: &impl Print, header: Header) -> io::Result<()> {
     addresses(rt, header.da, header.sa)?;
     function_code(rt, header.fc)?;
-    let dsap = header.dsap;
-    access_point(rt, b" dsap ", dsap)?;
-    let ssap = header.ssap;
-    access_point(rt, b" ssap ", ssap)
+    access_point(rt, b" dsap ", header.dsap)?;
+    access_point(rt, b" ssap ", header.ssap)
 }
 
 // Nothing where there are no user data.
@@ -74,8 +71,8 @@ pub(crate) fn telegram_line(
     line_end(rt)
 }
 
-pub(crate) fn refused_line(rt: &impl Print, number: u8) -> io::Result<()> {
+pub(crate) fn refused_line(rt: &impl Print, refusal: Refusal) -> io::Result<()> {
     text(rt, b"refused ")?;
-    decimal8(rt, number)?;
+    decimal8(rt, refusal.number())?;
     line_end(rt)
 }

@@ -1,6 +1,7 @@
 // The lines behind the last sending: the ending, and the slots that are new.
 use crate::sending_line::codes;
 use crate::text::{decimal, decimal8, text};
+use octets::Refusal;
 use protocol::Ending;
 use std::io;
 
@@ -37,8 +38,7 @@ fn slot_line(rt: &impl Print, slot: u8, length: u8) -> io::Result<()> {
 
 // Every slot was empty before: one that is new has a length.
 fn slot_lines(rt: &impl Print, lengths: &[u8; 16]) -> io::Result<()> {
-    for slot in 0..16 {
-        let length = lengths[slot as usize];
+    for (slot, &length) in (0..16).zip(lengths) {
         if 0 < length {
             slot_line(rt, slot, length)?;
         }
@@ -59,8 +59,8 @@ pub(crate) fn ending_lines(
     slot_lines(rt, lengths)
 }
 
-pub(crate) fn refused_line(rt: &impl Print, number: u8) -> io::Result<()> {
+pub(crate) fn refused_line(rt: &impl Print, refusal: Refusal) -> io::Result<()> {
     text(rt, b"refused ")?;
-    decimal8(rt, number)?;
+    decimal8(rt, refusal.number())?;
     text(rt, b"\n")
 }

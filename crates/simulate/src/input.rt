@@ -14,29 +14,22 @@ pub(crate) struct Parts {
     pub(crate) rest_len: usize,
 }
 
-#[derive(Drop)]
-pub(crate) enum Layout {
-    Is(Parts),
-    // It ends before the last entry of the line.
-    Cut,
-}
-
 pub(crate) const BOOK_START: usize = 7;
 
-// Where the parts stand, if all of them do.
-pub(crate) fn laid_out(input: &[u8]) -> Layout {
+// Where the parts stand, or None where the input ends before the last entry of the line.
+pub(crate) fn laid_out(input: &[u8]) -> Option<Parts> {
     if input.len() < BOOK_START {
-        return Layout::Cut;
+        return None;
     }
     let book_len = join16(input[5], input[6]) as usize;
     let line_start = BOOK_START + book_len + 2;
     if input.len() < line_start {
-        return Layout::Cut;
+        return None;
     }
     let line_len = join16(input[line_start - 2], input[line_start - 1]) as usize;
     let rest_start = line_start + line_len;
     if input.len() < rest_start {
-        return Layout::Cut;
+        return None;
     }
     let settings = Settings {
         printer: input[0],
@@ -44,7 +37,7 @@ pub(crate) fn laid_out(input: &[u8]) -> Layout {
         repeats: input[2],
         polls: input[3],
     };
-    Layout::Is(Parts {
+    Some(Parts {
         settings,
         boarding: input[4],
         book_len,

@@ -10,10 +10,10 @@ mod text;
 ghost use Rattle.std.specs.Prelude.{◌≤◌, length, IfOk};
 
 use crate::ending_lines::{ending_lines, refused_line};
-use crate::input::{BOOK_START, Layout, laid_out};
+use crate::input::{BOOK_START, laid_out};
 use crate::sending_line::sending_line;
-use octets::part;
-use protocol::{Action, Check, Controller, Pending, Printer, Reaction, Settings};
+use octets::{Refusal, part};
+use protocol::{Action, Controller, Pending, Printer, Settings};
 use std::io;
 use std::io::Read;
 
@@ -38,29 +38,27 @@ fn fresh(address: u8, boarding: u8) -> Printer {
 
 // The line's entry for the sending after so many: a missing one goes through.
 fn entry_after(sent: u16, line: &[u8]) -> u8 {
-    let i = sent as usize;
-    if i < line.len() {
-        return line[i];
-    }
-    0
+    line.get(sent as usize).copied().unwrap_or(0)
 }
 
 // The lines behind the last sending. A download never ends otherwise: what could be refused was judged before.
-fn ended(rt: &impl Print, action: Action, sent: u16, lengths: &[u8; 16]) -> io::Result<()> {
+fn ended(
+    rt: &impl Print,
+    action: Result<Action, Refusal>,
+    sent: u16,
+    lengths: &[u8; 16],
+) -> io::Result<()> {
     match action {
-        Action::Send {
-            controller: _,
-            request: _,
-        } => Ok(()),
-        Action::End(ending) => ending_lines(rt, ending, sent, lengths),
-        Action::Refused(number) => refused_line(rt, number),
+        Ok(Action::Send { .. }) => Ok(()),
+        Ok(Action::End(ending)) => ending_lines(rt, ending, sent, lengths),
+        Err(refusal) => refused_line(rt, refusal),
     }
 }
 
 // What the controller does next, and the printer then.
 #[derive(Drop)]
 struct Stage {
-    action: Action,
+    action: Result<Action, Refusal>,
     printer: Printer,
 }
 
@@ -81,26 +79,23 @@ fn turn(
     request: &mut [u8],
 ) -> io::Result<Stage> {
     let sent = part(request, 0, count as usize);
-    let reaction = sending::send(
+    let reaction = match sending::send(
         entry, sent, printer, not_yet, &DIAGNOSIS, lengths, bodies, reply,
-    );
-    match reaction {
-        Reaction::Refused(number) => Ok(Stage {
-            action: Action::Refused(number),
-            printer,
-        }),
-        Reaction::Heard {
-            printer: heard,
-            reply: back,
-        } => {
-            let came = part(reply, 0, back as usize);
-            sending_line(rt, number, sent, entry, settings, came)?;
-            Ok(Stage {
-                action: controller::step(settings, book, controller, came, request),
-                printer: heard,
-            })
+    ) {
+        Ok(reaction) => reaction,
+        Err(refusal) => {
+            return Ok(Stage {
+                action: Err(refusal),
+                printer,
+            });
         }
-    }
+    };
+    let came = part(reply, 0, reaction.reply as usize);
+    sending_line(rt, number, sent, entry, settings, came)?;
+    Ok(Stage {
+        action: controller::step(settings, book, controller, came, request),
+        printer: reaction.printer,
+    })
 }
 
 // Every sending, until the controller ends the download.
@@ -116,29 +111,29 @@ fn sendings(
     reply: &mut [u8],
     request: &mut [u8],
 ) -> io::Result<()> {
-    let mut sent: u16 = 0;
     let mut now = Stage {
         action: controller::step(settings, book, Controller::Fresh, b"", request),
         printer,
     };
-    while sent < SENDINGS_MOST {
-        let Action::Send {
-            controller,
-            request: count,
-        } = now.action
-        else {
-            break;
+    for sent in 0..SENDINGS_MOST {
+        let (controller, count) = match now.action {
+            Ok(
+                Action::Send {
+                    controller,
+                    request: count,
+                },
+            ) => (controller, count),
+            action => return ended(rt, action, sent, lengths),
         };
-        let printer = now.printer;
         let entry = entry_after(sent, line);
-        sent += 1;
+        let number = sent + 1;
+        let printer = now.printer;
         now = turn(
-            rt, settings, book, entry, not_yet, sent, controller, count, printer, lengths, bodies,
-            reply, request,
+            rt, settings, book, entry, not_yet, number, controller, count, printer, lengths,
+            bodies, reply, request,
         )?;
     }
-    let action = now.action;
-    ended(rt, action, sent, lengths)
+    ended(rt, now.action, SENDINGS_MOST, lengths)
 }
 
 // Runs a download to a fresh printer whose slots are all empty, and prints it.
@@ -159,8 +154,8 @@ fn run(
         settings, book, line, &DIAGNOSIS, printer, &lengths, &bodies, &reply, &request,
     );
     match check {
-        Check::Refused(number) => refused_line(rt, number),
-        Check::Fine => sendings(
+        Err(refusal) => refused_line(rt, refusal),
+        Ok(()) => sendings(
             rt,
             settings,
             book,
@@ -176,20 +171,16 @@ fn run(
 }
 
 fn simulate(rt: &impl Print, input: &[u8]) -> io::Result<()> {
-    let found = laid_out(input);
-    match found {
-        Layout::Cut => refused_line(rt, 1),
-        Layout::Is(parts) => {
-            if 1 < parts.boarding {
-                return refused_line(rt, 12);
-            }
-            let settings = parts.settings;
-            let book = part(input, BOOK_START, parts.book_len);
-            let line = part(input, parts.line_start, parts.line_len);
-            let rest = part(input, parts.rest_start, parts.rest_len);
-            run(rt, settings, parts.boarding, book, line, rest)
-        }
+    let Some(parts) = laid_out(input) else {
+        return refused_line(rt, Refusal::EndsEarly);
+    };
+    if 1 < parts.boarding {
+        return refused_line(rt, Refusal::Field);
     }
+    let book = part(input, BOOK_START, parts.book_len);
+    let line = part(input, parts.line_start, parts.line_len);
+    let rest = part(input, parts.rest_start, parts.rest_len);
+    run(rt, parts.settings, parts.boarding, book, line, rest)
 }
 
 // Reads until buf is full or the input ends, and answers how many bytes it put in front.
@@ -198,11 +189,10 @@ fn read_full(input: &mut impl Read, buf: &mut [u8]) -> io::Result<usize>
 {
     let mut done = 0;
     while done < buf.len() {
-        let n = input.read(&mut buf[done..])?;
-        if n == 0 {
-            break;
+        match input.read(&mut buf[done..])? {
+            0 => break,
+            n => done += n,
         }
-        done += n;
     }
     Ok(done)
 }

@@ -1,6 +1,6 @@
 // The line for one sending: what the line did with it, and the reply as it came back.
 use crate::text::{decimal, decimal8, hex, text};
-use controller_input::{Exchange, Reply};
+use controller_input::Reply;
 use protocol::Settings;
 use std::io;
 
@@ -38,10 +38,10 @@ fn reply_words(rt: &impl Print, reply: Reply) -> io::Result<()> {
     }
 }
 
-fn exchange_words(rt: &impl Print, exchange: Exchange) -> io::Result<()> {
+fn exchange_words(rt: &impl Print, exchange: Option<Reply>) -> io::Result<()> {
     match exchange {
-        Exchange::Answered(reply) => reply_words(rt, reply),
-        Exchange::Nothing => text(rt, b"no reply"),
+        Some(reply) => reply_words(rt, reply),
+        None => text(rt, b"no reply"),
     }
 }
 
@@ -60,8 +60,8 @@ fn passage_words(rt: &impl Print, entry: u8, settings: Settings, reply: &[u8]) -
 // A request stands in SD2, with its function code at place 6.
 fn function_code(rt: &impl Print, request: &[u8]) -> io::Result<()> {
     text(rt, b" fc")?;
-    if 6 < request.len() {
-        hex(rt, request[6])?;
+    if let Some(fc) = request.get(6) {
+        hex(rt, *fc)?;
     }
     Ok(())
 }

@@ -1,19 +1,17 @@
 -- Which bytes are a typed value (document 01, "Typed values"), in plain arithmetic: the code, then as many bytes as its type has.
 use Prim.Native.Nat.{ℕ, suc, ◌+◌, ◌≤◌}
-use Rattle.std.specs.Prelude.{◌≡◌, refl, Bool, true, false, not, List, [], ◌∷◌, ◌↔◌, length, eqb, leb}
+use Rattle.std.specs.Prelude.{◌≡◌, refl, Bool, true, false, not, List, [], ◌∷◌, ◌↔◌, length, eqb, leb, Ok, Err}
 use Rattle.std.proofs.Common.{arith}
 use Rattle.std.proofs.Math.ListN.{get_or}
 use borrow.Author.Tests.{eqb-true, eqb-false, leb-true, not-true, not-false}
 use Rattle.octets.proofs.Choice.{never, by_pick, and_left, and_right, by_or}
 use Rattle.typed.specs.Value.{one, two, four, Kind, boolean, signed, unsigned, floating, kind_of, width_in, width_of, value_of}
-use Rattle.typed.specs.Reading.{good_code, good_boolean, read_of}
+use Rattle.typed.specs.Reading.{good_code, good_boolean, read_of, Reading}
 use Rattle.typed.specs.declared.value.Value.TheVariants.{Boolean}
-use Rattle.typed.specs.declared.reading.Reading.{Reading}
-use Rattle.typed.specs.declared.reading.Reading.TheVariants.{Value, Refused}
 
 abbrev pub accepted : Reading → Bool
-accepted (Value v) = true
-accepted (Refused r) = false
+accepted (Ok v) = true
+accepted (Err r) = false
 
 -- A Boolean is 00 or FF; the bytes of every other type are free, those of a NaN too.
 pub data ValueBytes (s : List ℕ) : Type 0 where
@@ -99,8 +97,8 @@ codes_computed = (refl, refl, refl, refl, refl, refl, refl, refl)
 
 -- FF is true, 00 is false, and a NaN is a value.
 pub values_computed :
-    (read_of (1 ∷ 255 ∷ []) ≡ Value (Boolean true))
-    × (read_of (1 ∷ 0 ∷ []) ≡ Value (Boolean false))
+    (read_of (1 ∷ 255 ∷ []) ≡ Ok (Boolean true))
+    × (read_of (1 ∷ 0 ∷ []) ≡ Ok (Boolean false))
     × (accepted (read_of (8 ∷ 127 ∷ 192 ∷ 0 ∷ 1 ∷ [])) ≡ true)
 unfolding read_of kind_of value_of
 values_computed = (refl, refl, refl)

@@ -2,10 +2,8 @@
 // definitions and laws of both ways.
 #![tactic(auto)]
 
-mod reading;
 mod value;
 
-pub use reading::Reading;
 pub use value::{
     BOOLEAN, FLOATING_POINT, SIGNED_8, SIGNED_16, SIGNED_32, UNSIGNED_8, UNSIGNED_16, UNSIGNED_32,
     Value,

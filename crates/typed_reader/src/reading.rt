@@ -1,5 +1,6 @@
 // Reading a typed value.
 ghost use Rattle.std.specs.Prelude.{◌≡◌, ◌+◌, length, drop};
+ghost use Rattle.octets.specs.Refusals.{told};
 ghost use Rattle.octets.specs.Number.{number_of};
 ghost use Rattle.typed.specs.Value.{floating, kind_of, width_of, value_of};
 ghost use Rattle.typed.specs.Reading.{good_code, good_boolean, read_of};
@@ -8,8 +9,8 @@ use crate::signed::{signed8, signed16, signed32};
 use float::Floating;
 use octets::Refusal;
 use typed::{
-    BOOLEAN, FLOATING_POINT, Reading, SIGNED_8, SIGNED_16, SIGNED_32, UNSIGNED_8, UNSIGNED_16,
-    UNSIGNED_32, Value,
+    BOOLEAN, FLOATING_POINT, SIGNED_8, SIGNED_16, SIGNED_32, UNSIGNED_8, UNSIGNED_16, UNSIGNED_32,
+    Value,
 };
 
 // Codes 1 to 8.
@@ -68,17 +69,18 @@ fn long(bytes: &[u8]) -> u32
 }
 
 // The floating-point value of a pattern.
+#[tactic(auto, unfolding(typed::specs::Value::value_of))]
 fn float(pattern: u32) -> Value
     ensures { result ≡ value_of floating pattern }
 {
-    let found = float::floating_of(pattern);
-    match found {
+    match float::floating_of(pattern) {
         Floating::Number(number) => Value::Float(number),
         Floating::Nan(bits) => Value::Nan(bits),
     }
 }
 
 // The value of a code and the bytes behind it.
+#[tactic(auto, unfolding(typed::specs::Value::kind_of, typed::specs::Value::value_of))]
 fn value(code: u8, bytes: &[u8]) -> Value
     requires { length bytes.now ≡ 1 + width_of code }
     ensures { result ≡ value_of (kind_of code) (number_of (drop 1 bytes.now)) }
@@ -96,22 +98,23 @@ fn value(code: u8, bytes: &[u8]) -> Value
 }
 
 // Reads a typed value: all of the lent slice is one.
-pub fn read(bytes: &[u8]) -> Reading
-    ensures { result ≡ read_of bytes.now }
+#[tactic(auto, unfolding(typed::specs::Reading::read_of))]
+pub fn read(bytes: &[u8]) -> Result<Value, Refusal>
+    ensures { told result ≡ read_of bytes.now }
 {
     if bytes.len() == 0 {
-        return Reading::Refused(Refusal { number: 20 });
+        return Err(Refusal::DataLength);
     }
     let code = bytes[0];
     if !good_code(code) {
-        return Reading::Refused(Refusal { number: 29 });
+        return Err(Refusal::TypedCode);
     }
     let size = 1 + width(code);
     if bytes.len() != size {
-        return Reading::Refused(Refusal { number: 20 });
+        return Err(Refusal::DataLength);
     }
     if !good_boolean(code, bytes[1]) {
-        return Reading::Refused(Refusal { number: 29 });
+        return Err(Refusal::TypedCode);
     }
-    Reading::Value(value(code, bytes))
+    Ok(value(code, bytes))
 }

@@ -3,7 +3,8 @@
 use crate::answer::malformed;
 use crate::outcome::{again, behind, refused, stored};
 use crate::text::{byte_field, place, text};
-use acyclic::{Answer, AnswerReading, Call, CallReading, Function};
+use acyclic::{Answer, Call, Function};
+use octets::Read;
 use std::io;
 
 fn two(rt: &impl Print, first: u8, second: u8) -> io::Result<()> {
@@ -50,38 +51,23 @@ pub(crate) fn call_words(rt: &impl Print, call: &Call) -> io::Result<()> {
 // Where the data stand, in a call that can have them.
 fn call_place(rt: &impl Print, call: &Call, start: usize, len: usize) -> io::Result<()> {
     match call {
-        Call::Poll => Ok(()),
-        Call::Read {
-            slot: _,
-            index: _,
-            length: _,
-        } => Ok(()),
-        Call::Write { slot: _, index: _ } => place(rt, start, len),
-        Call::AlarmAck {
-            slot: _,
-            alarm: _,
-            specifier: _,
-        } => Ok(()),
-        Call::Idle => Ok(()),
-        Call::Transport { slot: _, index: _ } => place(rt, start, len),
+        Call::Write { .. } | Call::Transport { .. } => place(rt, start, len),
+        Call::Poll | Call::Read { .. } | Call::AlarmAck { .. } | Call::Idle => Ok(()),
     }
 }
 
 pub(crate) fn call_line(rt: &impl Print, bytes: &[u8], out: &mut [u8]) -> io::Result<()> {
     match acyclic_reader::read_call(bytes) {
-        CallReading::Refused(refusal) => {
-            refused(rt, refusal)?;
-            text(rt, b"\n")
-        }
-        CallReading::Call { call, start, len } => {
+        Err(refusal) => refused(rt, refusal)?,
+        Ok(Read { fields, start, len }) => {
             text(rt, b"0")?;
-            call_words(rt, &call)?;
-            call_place(rt, &call, start, len)?;
-            let written = acyclic_writer::write_call(call, octets::part(bytes, start, len), out);
+            call_words(rt, &fields)?;
+            call_place(rt, &fields, start, len)?;
+            let written = acyclic_writer::write_call(fields, octets::part(bytes, start, len), out);
             again(rt, written, out)?;
-            text(rt, b"\n")
         }
     }
+    text(rt, b"\n")
 }
 
 fn number_of(function: &Function) -> u8 {
@@ -136,47 +122,29 @@ pub(crate) fn answer_words(rt: &impl Print, answer: &Answer) -> io::Result<()> {
 // Where the data stand, in an answer that can have them.
 fn answer_place(rt: &impl Print, answer: &Answer, start: usize, len: usize) -> io::Result<()> {
     match answer {
-        Answer::Read { slot: _, index: _ } => place(rt, start, len),
-        Answer::Write {
-            slot: _,
-            index: _,
-            length: _,
-        } => Ok(()),
-        Answer::AlarmAck {
-            slot: _,
-            alarm: _,
-            specifier: _,
-        } => Ok(()),
-        Answer::Idle => Ok(()),
-        Answer::Transport { slot: _, index: _ } => place(rt, start, len),
-        Answer::Negative {
-            function: _,
-            decode: _,
-            code1: _,
-            code2: _,
-        } => Ok(()),
+        Answer::Read { .. } | Answer::Transport { .. } => place(rt, start, len),
+        Answer::Write { .. } | Answer::AlarmAck { .. } | Answer::Idle | Answer::Negative { .. } => {
+            Ok(())
+        }
     }
 }
 
 pub(crate) fn answer_line(rt: &impl Print, bytes: &[u8], out: &mut [u8]) -> io::Result<()> {
     match acyclic_reader::read_answer(bytes) {
-        AnswerReading::Refused(refusal) => {
-            refused(rt, refusal)?;
-            text(rt, b"\n")
-        }
-        AnswerReading::Answer { answer, start, len } => {
+        Err(refusal) => refused(rt, refusal)?,
+        Ok(Read { fields, start, len }) => {
             text(rt, b"0")?;
-            answer_words(rt, &answer)?;
-            answer_place(rt, &answer, start, len)?;
+            answer_words(rt, &fields)?;
+            answer_place(rt, &fields, start, len)?;
             let written = acyclic_writer::write_answer(
-                answer,
+                fields,
                 octets::part(bytes, start, len),
                 out,
             );
             again(rt, written, out)?;
-            text(rt, b"\n")
         }
     }
+    text(rt, b"\n")
 }
 
 fn written_call(rt: &impl Print, call: Call, data: &[u8], out: &mut [u8]) -> io::Result<()> {

@@ -1,15 +1,13 @@
 // The answer to a telegram: its refusal number; or 0, its kind (0 short confirmation, 1 token, 2
 // SD1, 3 SD2, 4 SD3), DA, SA, FC, DSAP, SSAP, and the start and the length of its user data.
-use crate::text::{byte_field, decimal, field, place, text};
+use crate::outcome::refused;
+use crate::text::{byte_field, place, text};
 use fdl::{Format, Header, Reading, Sap};
 use std::io;
 
 // 255 where there is none: no access point is above 63.
 fn access_point(rt: &impl Print, sap: Sap) -> io::Result<()> {
-    match sap {
-        Sap::Absent => field(rt, 255),
-        Sap::Present(number) => byte_field(rt, number),
-    }
+    byte_field(rt, sap.unwrap_or(255))
 }
 
 // The kind, DA, SA and FC.
@@ -23,10 +21,8 @@ pub(crate) fn head_fields(rt: &impl Print, kind: u8, header: Header) -> io::Resu
 fn fields(rt: &impl Print, kind: u8, header: Header, start: usize, len: usize) -> io::Result<()> {
     text(rt, b"0")?;
     head_fields(rt, kind, header)?;
-    let dsap = header.dsap;
-    access_point(rt, dsap)?;
-    let ssap = header.ssap;
-    access_point(rt, ssap)?;
+    access_point(rt, header.dsap)?;
+    access_point(rt, header.ssap)?;
     place(rt, start, len)
 }
 
@@ -36,8 +32,8 @@ fn address_fields(rt: &impl Print, kind: u8, da: u8, sa: u8) -> io::Result<()> {
         da,
         sa,
         fc: 0,
-        dsap: Sap::Absent,
-        ssap: Sap::Absent,
+        dsap: None,
+        ssap: None,
     };
     fields(rt, kind, header, 0, 0)
 }
@@ -50,17 +46,23 @@ pub(crate) fn kind_of(format: Format) -> u8 {
     }
 }
 
-pub(crate) fn telegram(rt: &impl Print, bytes: &[u8]) -> io::Result<()> {
-    match fdl_reader::read(bytes) {
-        Reading::Confirmation => address_fields(rt, 0, 0, 0)?,
-        Reading::Token { da, sa } => address_fields(rt, 1, da, sa)?,
+fn reading_fields(rt: &impl Print, reading: Reading) -> io::Result<()> {
+    match reading {
+        Reading::Confirmation => address_fields(rt, 0, 0, 0),
+        Reading::Token { da, sa } => address_fields(rt, 1, da, sa),
         Reading::Telegram {
             format,
             header,
             start,
             len,
-        } => fields(rt, kind_of(format), header, start, len)?,
-        Reading::Refused(refusal) => decimal(rt, refusal.number as usize)?,
+        } => fields(rt, kind_of(format), header, start, len),
+    }
+}
+
+pub(crate) fn telegram(rt: &impl Print, bytes: &[u8]) -> io::Result<()> {
+    match fdl_reader::read(bytes) {
+        Ok(reading) => reading_fields(rt, reading)?,
+        Err(refusal) => refused(rt, refusal)?,
     }
     text(rt, b"\n")
 }

@@ -3,48 +3,30 @@
 use crate::answer::malformed;
 use crate::outcome::{again, behind, refused, stored, walk_refused};
 use crate::text::{byte_field, field, place, text};
-use book::{Reading, Template};
+use book::Template;
 use std::io;
-
-fn templates_end(rt: &impl Print, found: Template) -> io::Result<()> {
-    match found {
-        Template::Is {
-            slot: _,
-            start: _,
-            len: _,
-        } => Ok(()),
-        Template::Refused(refusal) => walk_refused(rt, refusal),
-    }
-}
 
 // Each template, and the number that the first one gets that is not there. No book has a template 17.
 fn templates(rt: &impl Print, bytes: &[u8]) -> io::Result<()> {
     for k in 1..18 {
-        let found = book_reader::template(bytes, k);
-        let Template::Is { slot, start, len } = found else {
-            return templates_end(rt, found);
-        };
-        text(rt, b" |")?;
-        byte_field(rt, slot)?;
-        place(rt, start, len)?;
+        match book_reader::template(bytes, k) {
+            Ok(Template { slot, start, len }) => {
+                text(rt, b" |")?;
+                byte_field(rt, slot)?;
+                place(rt, start, len)?;
+            }
+            Err(refusal) => return walk_refused(rt, refusal),
+        }
     }
     Ok(())
 }
 
 // Takes slots and lengths apart, which stand in turn behind the count.
 fn take_apart(bytes: &[u8], slots: &mut [u8], lengths: &mut [u8]) {
-    for i in 0..16 {
-        if bytes.len() < 3 + 2 * i {
-            return;
-        }
-        if slots.len() <= i {
-            return;
-        }
-        if lengths.len() <= i {
-            return;
-        }
-        slots[i] = bytes[1 + 2 * i];
-        lengths[i] = bytes[2 + 2 * i];
+    let (pairs, _) = behind(bytes, 1).as_chunks::<2>();
+    for ((slot, length), pair) in slots.iter_mut().zip(lengths).zip(pairs) {
+        *slot = pair[0];
+        *length = pair[1];
     }
 }
 
@@ -68,19 +50,18 @@ fn written_again(rt: &impl Print, count: usize, bytes: &[u8], out: &mut [u8]) ->
 
 pub(crate) fn book_line(rt: &impl Print, bytes: &[u8], out: &mut [u8]) -> io::Result<()> {
     match book_reader::read(bytes) {
-        Reading::Refused(refusal) => {
+        Err(refusal) => {
             refused(rt, refusal)?;
             templates(rt, bytes)?;
-            text(rt, b"\n")
         }
-        Reading::Book { count } => {
+        Ok(count) => {
             text(rt, b"0")?;
             field(rt, count)?;
             templates(rt, bytes)?;
             written_again(rt, count, bytes, out)?;
-            text(rt, b"\n")
         }
     }
+    text(rt, b"\n")
 }
 
 // Of the fields behind the slots and behind the number of lengths, the lengths and the bodies.

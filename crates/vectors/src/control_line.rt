@@ -2,6 +2,7 @@
 use crate::answer::malformed;
 use crate::outcome::{again, behind, refused, stored};
 use crate::text::{byte_field, place, text, word_field};
+use octets::Read;
 use std::io;
 
 pub(crate) fn change_words(
@@ -15,11 +16,8 @@ pub(crate) fn change_words(
 
 pub(crate) fn address_line(rt: &impl Print, bytes: &[u8], out: &mut [u8]) -> io::Result<()> {
     match address_change::read_address_change(bytes) {
-        address_change::AddressReading::Refused(refusal) => {
-            refused(rt, refusal)?;
-            text(rt, b"\n")
-        }
-        address_change::AddressReading::Change { fields, start, len } => {
+        Err(refusal) => refused(rt, refusal)?,
+        Ok(Read { fields, start, len }) => {
             text(rt, b"0")?;
             change_words(rt, &fields)?;
             place(rt, start, len)?;
@@ -29,9 +27,9 @@ pub(crate) fn address_line(rt: &impl Print, bytes: &[u8], out: &mut [u8]) -> io:
                 out,
             );
             again(rt, written, out)?;
-            text(rt, b"\n")
         }
     }
+    text(rt, b"\n")
 }
 
 pub(crate) fn command_words(rt: &impl Print, command: &control::GlobalCommand) -> io::Result<()> {
@@ -41,11 +39,8 @@ pub(crate) fn command_words(rt: &impl Print, command: &control::GlobalCommand) -
 
 pub(crate) fn command_line(rt: &impl Print, bytes: &[u8], out: &mut [u8]) -> io::Result<()> {
     match control::read_global_command(bytes) {
-        control::CommandReading::Refused(refusal) => {
-            refused(rt, refusal)?;
-            text(rt, b"\n")
-        }
-        control::CommandReading::Command { fields, start, len } => {
+        Err(refusal) => refused(rt, refusal)?,
+        Ok(Read { fields, start, len }) => {
             text(rt, b"0")?;
             command_words(rt, &fields)?;
             place(rt, start, len)?;
@@ -55,9 +50,9 @@ pub(crate) fn command_line(rt: &impl Print, bytes: &[u8], out: &mut [u8]) -> io:
                 out,
             );
             again(rt, written, out)?;
-            text(rt, b"\n")
         }
     }
+    text(rt, b"\n")
 }
 
 // Address, ident, the last byte, and the rest.

@@ -5,10 +5,10 @@ use crate::outcome::{again, behind, refused, stored, walk_refused};
 use crate::text::{byte_field, field, place, text, word_field};
 use std::io;
 
-fn lowest(rt: &impl Print, lowest: diagnosis::Lowest) -> io::Result<()> {
+fn lowest(rt: &impl Print, lowest: Option<usize>) -> io::Result<()> {
     match lowest {
-        diagnosis::Lowest::Module(number) => field(rt, number),
-        diagnosis::Lowest::Nothing => text(rt, b" -"),
+        Some(number) => field(rt, number),
+        None => text(rt, b" -"),
     }
 }
 
@@ -40,24 +40,18 @@ fn block(rt: &impl Print, block: diagnosis::Block) -> io::Result<()> {
     }
 }
 
-fn blocks_end(rt: &impl Print, step: diagnosis::Step) -> io::Result<()> {
-    match step {
-        diagnosis::Step::Block(_, _) => Ok(()),
-        diagnosis::Step::End => text(rt, b" ."),
-        diagnosis::Step::Refused(refusal) => walk_refused(rt, refusal),
-    }
-}
-
 // No data has as many blocks as the loop has turns.
 fn blocks(rt: &impl Print, bytes: &[u8]) -> io::Result<()> {
     let mut position = diagnosis_walk::first();
     for _ in 0..4097 {
-        let step = diagnosis_walk::next(bytes, position);
-        let diagnosis::Step::Block(found, next) = step else {
-            return blocks_end(rt, step);
-        };
-        block(rt, found)?;
-        position = next;
+        match diagnosis_walk::next(bytes, position) {
+            Ok(diagnosis::Step::Block(found, next)) => {
+                block(rt, found)?;
+                position = next;
+            }
+            Ok(diagnosis::Step::End) => return text(rt, b" ."),
+            Err(refusal) => return walk_refused(rt, refusal),
+        }
     }
     Ok(())
 }
@@ -72,24 +66,20 @@ pub(crate) fn header_words(rt: &impl Print, header: diagnosis::Header) -> io::Re
 
 pub(crate) fn diagnosis_line(rt: &impl Print, bytes: &[u8], out: &mut [u8]) -> io::Result<()> {
     match diagnosis_reader::read(bytes) {
-        diagnosis::Reading::Refused(refusal) => {
+        Err(refusal) => {
             refused(rt, refusal)?;
             blocks(rt, bytes)?;
-            text(rt, b"\n")
         }
-        diagnosis::Reading::Diagnosis {
-            header,
-            blocks: count,
-        } => {
+        Ok(found) => {
             text(rt, b"0")?;
-            header_words(rt, header)?;
-            field(rt, count)?;
+            header_words(rt, found.header)?;
+            field(rt, found.blocks)?;
             blocks(rt, bytes)?;
-            let written = diagnosis_writer::write(header, behind(bytes, 6), out);
+            let written = diagnosis_writer::write(found.header, behind(bytes, 6), out);
             again(rt, written, out)?;
-            text(rt, b"\n")
         }
     }
+    text(rt, b"\n")
 }
 
 // Status 1 to 3, master, ident, and the bytes of the blocks.

@@ -2,9 +2,9 @@
 // how it ended, as the C interface has it, how many sendings there were, how many writes the printer has
 // counted, and after a bar each slot that has a template then, with its length and bytes.
 use crate::answer::malformed;
-use crate::outcome::behind;
-use crate::text::{byte_field, decimal, hex_fields, text, word_field};
-use protocol::{Downloaded, Ending, Pending, Printer, Settings};
+use crate::outcome::{behind, refused};
+use crate::text::{byte_field, hex_fields, text, word_field};
+use protocol::{Ending, Pending, Printer, Settings};
 use std::io;
 
 fn ending_fields(rt: &impl Print, how: Ending) -> io::Result<()> {
@@ -31,8 +31,8 @@ fn slot_fields(rt: &impl Print, slot: u8, length: u8, bodies: &[u8; 3200]) -> io
 }
 
 fn slots_fields(rt: &impl Print, lengths: &[u8; 16], bodies: &[u8; 3200]) -> io::Result<()> {
-    for slot in 0..16 {
-        slot_fields(rt, slot, lengths[slot as usize], bodies)?;
+    for (slot, &length) in (0..16).zip(lengths) {
+        slot_fields(rt, slot, length, bodies)?;
     }
     Ok(())
 }
@@ -50,7 +50,7 @@ fn downloaded(
     let mut bodies = [0u8; 3200];
     let mut reply = [0u8; 255];
     let mut request = [0u8; 255];
-    let outcome = download::run(
+    match download::run(
         settings,
         book,
         line,
@@ -61,18 +61,13 @@ fn downloaded(
         &mut bodies,
         &mut reply,
         &mut request,
-    );
-    match outcome {
-        Downloaded::Refused(number) => decimal(rt, number as usize)?,
-        Downloaded::Ended {
-            ending,
-            sent,
-            printer,
-        } => {
+    ) {
+        Err(refusal) => refused(rt, refusal)?,
+        Ok(found) => {
             text(rt, b"0")?;
-            ending_fields(rt, ending)?;
-            word_field(rt, sent)?;
-            byte_field(rt, printer.writes)?;
+            ending_fields(rt, found.ending)?;
+            word_field(rt, found.sent)?;
+            byte_field(rt, found.printer.writes)?;
             slots_fields(rt, &lengths, &bodies)?;
         }
     }

@@ -3,7 +3,7 @@
 // that they are fields for a writer. Every other line is the bytes of one such thing as two hex digits
 // with single spaces between them; an empty line has no bytes.
 use crate::answer;
-use crate::subject::{Named, Subject, answer_to, fields_of, subject_of};
+use crate::subject::{Subject, answer_to, fields_of, subject_of};
 use std::io;
 
 // What a line has come to.
@@ -42,12 +42,6 @@ struct Digits {
     count: usize,
 }
 
-#[derive(Drop)]
-enum Hex {
-    Digit(u8),
-    Other,
-}
-
 fn start_of(subject: Subject) -> Line {
     Line {
         place: Place::Start,
@@ -60,19 +54,20 @@ pub(crate) fn start() -> Line {
     start_of(Subject::Telegram)
 }
 
-fn hex_of(byte: u8) -> Hex {
+// The number that a hex digit stands for.
+fn hex_of(byte: u8) -> Option<u8> {
     match byte {
-        b'0'..=b'9' => Hex::Digit(byte - b'0'),
-        b'A'..=b'F' => Hex::Digit(byte - b'A' + 10),
-        b'a'..=b'f' => Hex::Digit(byte - b'a' + 10),
-        _ => Hex::Other,
+        b'0'..=b'9' => Some(byte - b'0'),
+        b'A'..=b'F' => Some(byte - b'A' + 10),
+        b'a'..=b'f' => Some(byte - b'a' + 10),
+        _ => None,
     }
 }
 
 fn first_digit(byte: u8) -> Place {
     match hex_of(byte) {
-        Hex::Digit(high) => Place::Digit(high),
-        Hex::Other => Place::Malformed,
+        Some(high) => Place::Digit(high),
+        None => Place::Malformed,
     }
 }
 
@@ -81,24 +76,22 @@ fn first_digit(byte: u8) -> Place {
 // has more than 244, no book more than 3,233, a download has at most 518 before its book, and the buffer
 // has 4,096.
 fn second_digit(high: u8, byte: u8, count: usize, bytes: &mut [u8]) -> Digits {
-    match hex_of(byte) {
-        Hex::Digit(low) => {
-            if bytes.len() <= count {
-                return Digits {
-                    place: Place::Byte,
-                    count,
-                };
-            }
-            bytes[count] = (high << 4) | low;
-            Digits {
-                place: Place::Byte,
-                count: count + 1,
-            }
-        }
-        Hex::Other => Digits {
+    let Some(low) = hex_of(byte) else {
+        return Digits {
             place: Place::Malformed,
             count,
-        },
+        };
+    };
+    if bytes.len() <= count {
+        return Digits {
+            place: Place::Byte,
+            count,
+        };
+    }
+    bytes[count] = (high << 4) | low;
+    Digits {
+        place: Place::Byte,
+        count: count + 1,
     }
 }
 
@@ -124,14 +117,14 @@ fn after_byte(byte: u8) -> Place {
 }
 
 // After the letter that names what follows. A letter that names nothing leaves the subject as it was.
-fn after_letter(named: Named, subject: Subject) -> Line {
+fn after_letter(named: Option<Subject>, subject: Subject) -> Line {
     match named {
-        Named::Is(subject) => Line {
+        Some(subject) => Line {
             place: Place::Named,
             subject,
             count: 0,
         },
-        Named::Unknown => Line {
+        None => Line {
             place: Place::Malformed,
             subject,
             count: 0,
@@ -148,10 +141,8 @@ fn end(
     out: &mut [u8],
 ) -> io::Result<()> {
     match place {
-        Place::Start => answer_to(rt, subject, bytes, out),
-        Place::Comment => Ok(()),
-        Place::Named => Ok(()),
-        Place::Byte => answer_to(rt, subject, bytes, out),
+        Place::Start | Place::Byte => answer_to(rt, subject, bytes, out),
+        Place::Comment | Place::Named => Ok(()),
         _ => answer::malformed(rt),
     }
 }
@@ -176,7 +167,6 @@ fn after(
         Place::Comment => Place::Comment,
         Place::Naming => return Ok(after_letter(subject_of(byte), subject)),
         Place::NamingFields => return Ok(after_letter(fields_of(byte), subject)),
-        Place::Named => Place::Malformed,
         Place::Space => first_digit(byte),
         Place::Digit(high) => {
             let digits = second_digit(high, byte, count, bytes);
@@ -188,7 +178,7 @@ fn after(
             });
         }
         Place::Byte => after_byte(byte),
-        Place::Malformed => Place::Malformed,
+        Place::Named | Place::Malformed => Place::Malformed,
     };
     Ok(Line {
         place: next,

@@ -3,7 +3,7 @@
 use crate::answer::malformed;
 use crate::outcome::{again, behind, refused, stored};
 use crate::text::{byte_field, field, place, text, word_field};
-use octets::Mode;
+use octets::{Mode, Read};
 use std::io;
 
 fn extension(rt: &impl Print, extension: parameters::Extension) -> io::Result<()> {
@@ -25,12 +25,10 @@ pub(crate) fn parameter_words(rt: &impl Print, fields: parameters::Parameters) -
     byte_field(rt, fields.flags)?;
     byte_field(rt, fields.factor1)?;
     byte_field(rt, fields.factor2)?;
-    let response = fields.response;
-    byte_field(rt, response.0)?;
+    byte_field(rt, fields.response.0)?;
     word_field(rt, fields.ident)?;
     byte_field(rt, fields.groups)?;
-    let added = fields.extension;
-    extension(rt, added)
+    extension(rt, fields.extension)
 }
 
 pub(crate) fn parameters_line(
@@ -40,11 +38,8 @@ pub(crate) fn parameters_line(
     out: &mut [u8],
 ) -> io::Result<()> {
     match parameters_reader::read(bytes, mode) {
-        parameters::Reading::Refused(refusal) => {
-            refused(rt, refusal)?;
-            text(rt, b"\n")
-        }
-        parameters::Reading::Parameters { fields, start, len } => {
+        Err(refusal) => refused(rt, refusal)?,
+        Ok(Read { fields, start, len }) => {
             text(rt, b"0")?;
             parameter_words(rt, fields)?;
             let watchdog = parameters::watchdog(fields);
@@ -54,9 +49,9 @@ pub(crate) fn parameters_line(
             place(rt, start, len)?;
             let written = parameters_writer::write(fields, octets::part(bytes, start, len), out);
             again(rt, written, out)?;
-            text(rt, b"\n")
         }
     }
+    text(rt, b"\n")
 }
 
 // Flags, both factors, response time, ident, groups, in DPV1 the three status bytes, and the user

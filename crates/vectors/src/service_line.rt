@@ -15,16 +15,14 @@ use std::io;
 fn name_word(rt: &impl Print, content: &Content) -> io::Result<()> {
     match content {
         Content::DataExchange => text(rt, b" data_exchange"),
-        Content::Dpv1Call(_) => text(rt, b" dpv1"),
-        Content::Dpv1Answer(_) => text(rt, b" dpv1"),
+        Content::Dpv1Call(_) | Content::Dpv1Answer(_) => text(rt, b" dpv1"),
         Content::ExtUserPrm => text(rt, b" ext_user_prm"),
         Content::SetSlaveAdr(_) => text(rt, b" set_slave_adr"),
         Content::RdInp => text(rt, b" rd_inp"),
         Content::RdOutp => text(rt, b" rd_outp"),
         Content::GlobalControl(_) => text(rt, b" global_control"),
         Content::GetCfg => text(rt, b" get_cfg"),
-        Content::SlaveDiagCall => text(rt, b" slave_diag"),
-        Content::SlaveDiag(_) => text(rt, b" slave_diag"),
+        Content::SlaveDiagCall | Content::SlaveDiag(_) => text(rt, b" slave_diag"),
         Content::SetPrm(_) => text(rt, b" set_prm"),
         Content::ChkCfg => text(rt, b" chk_cfg"),
     }
@@ -39,20 +37,35 @@ fn way_word(rt: &impl Print, way: Way) -> io::Result<()> {
 
 fn content_words(rt: &impl Print, content: &Content) -> io::Result<()> {
     match content {
-        Content::DataExchange => Ok(()),
         Content::Dpv1Call(call) => call_words(rt, call),
         Content::Dpv1Answer(answer) => answer_words(rt, answer),
-        Content::ExtUserPrm => Ok(()),
         Content::SetSlaveAdr(change) => change_words(rt, change),
-        Content::RdInp => Ok(()),
-        Content::RdOutp => Ok(()),
         Content::GlobalControl(command) => command_words(rt, command),
-        Content::GetCfg => Ok(()),
-        Content::SlaveDiagCall => Ok(()),
         Content::SlaveDiag(header) => header_words(rt, *header),
         Content::SetPrm(fields) => parameter_words(rt, *fields),
-        Content::ChkCfg => Ok(()),
+        Content::DataExchange
+        | Content::ExtUserPrm
+        | Content::RdInp
+        | Content::RdOutp
+        | Content::GetCfg
+        | Content::SlaveDiagCall
+        | Content::ChkCfg => Ok(()),
     }
+}
+
+// What writing makes of the service that was read, with this part.
+fn written_again(rt: &impl Print, found: Reading, part: &[u8], out: &mut [u8]) -> io::Result<()> {
+    let header = found.header;
+    let written = service_writer::write(
+        found.format,
+        header.da,
+        header.sa,
+        header.fc,
+        found.content,
+        part,
+        out,
+    );
+    again(rt, written, out)
 }
 
 pub(crate) fn service_line(
@@ -62,30 +75,16 @@ pub(crate) fn service_line(
     out: &mut [u8],
 ) -> io::Result<()> {
     match service_reader::read(bytes, mode) {
-        Reading::Refused(refusal) => {
-            refused(rt, refusal)?;
-            text(rt, b"\n")
-        }
-        Reading::Service {
-            format,
-            header,
-            way,
-            content,
-            start,
-            len,
-        } => {
+        Err(refusal) => refused(rt, refusal)?,
+        Ok(found) => {
             text(rt, b"0")?;
-            name_word(rt, &content)?;
-            way_word(rt, way)?;
-            head_fields(rt, kind_of(format), header)?;
-            content_words(rt, &content)?;
-            place(rt, start, len)?;
-            let part = octets::part(bytes, start, len);
-            let written = service_writer::write(
-                format, header.da, header.sa, header.fc, content, part, out,
-            );
-            again(rt, written, out)?;
-            text(rt, b"\n")
+            name_word(rt, &found.content)?;
+            way_word(rt, found.way)?;
+            head_fields(rt, kind_of(found.format), found.header)?;
+            content_words(rt, &found.content)?;
+            place(rt, found.start, found.len)?;
+            written_again(rt, found, octets::part(bytes, found.start, found.len), out)?;
         }
     }
+    text(rt, b"\n")
 }

@@ -55,35 +55,30 @@ pub(crate) enum Writer {
     Book,
 }
 
-#[derive(Drop)]
-pub(crate) enum Named {
-    Is(Subject),
-    Unknown,
+// What the letter after = says; None where it names nothing.
+pub(crate) fn subject_of(letter: u8) -> Option<Subject> {
+    let subject = match letter {
+        b't' => Subject::Telegram,
+        b'd' => Subject::Diagnosis,
+        b'p' => Subject::Parameters,
+        b'q' => Subject::Dpv1Parameters,
+        b'c' => Subject::Configuration,
+        b'a' => Subject::AddressChange,
+        b'g' => Subject::GlobalCommand,
+        b'x' => Subject::AcyclicCall,
+        b'y' => Subject::AcyclicAnswer,
+        b'v' => Subject::TypedValue,
+        b'b' => Subject::Book,
+        b's' => Subject::Service,
+        b'u' => Subject::Dpv1Service,
+        b'l' => Subject::Download,
+        _ => return None,
+    };
+    Some(subject)
 }
 
-// What the letter after = says.
-pub(crate) fn subject_of(letter: u8) -> Named {
-    match letter {
-        b't' => Named::Is(Subject::Telegram),
-        b'd' => Named::Is(Subject::Diagnosis),
-        b'p' => Named::Is(Subject::Parameters),
-        b'q' => Named::Is(Subject::Dpv1Parameters),
-        b'c' => Named::Is(Subject::Configuration),
-        b'a' => Named::Is(Subject::AddressChange),
-        b'g' => Named::Is(Subject::GlobalCommand),
-        b'x' => Named::Is(Subject::AcyclicCall),
-        b'y' => Named::Is(Subject::AcyclicAnswer),
-        b'v' => Named::Is(Subject::TypedValue),
-        b'b' => Named::Is(Subject::Book),
-        b's' => Named::Is(Subject::Service),
-        b'u' => Named::Is(Subject::Dpv1Service),
-        b'l' => Named::Is(Subject::Download),
-        _ => Named::Unknown,
-    }
-}
-
-// What the letter after > says.
-pub(crate) fn fields_of(letter: u8) -> Named {
+// What the letter after > says; None where it names nothing.
+pub(crate) fn fields_of(letter: u8) -> Option<Subject> {
     let writer = match letter {
         b'd' => Writer::Diagnosis,
         b'e' => Writer::Device,
@@ -99,11 +94,9 @@ pub(crate) fn fields_of(letter: u8) -> Named {
         b'y' => Writer::AcyclicAnswer,
         b'v' => Writer::TypedValue,
         b'b' => Writer::Book,
-        _ => {
-            return Named::Unknown;
-        }
+        _ => return None,
     };
-    Named::Is(Subject::Fields(writer))
+    Some(Subject::Fields(writer))
 }
 
 fn written(rt: &impl Print, writer: Writer, fields: &[u8], out: &mut [u8]) -> io::Result<()> {

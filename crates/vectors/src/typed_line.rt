@@ -2,9 +2,9 @@
 use crate::answer::malformed;
 use crate::outcome::{again, refused, stored};
 use crate::text::{byte_field, decimal, field, flag_field, text, word_field};
-use float::{Floating, Pattern};
+use float::Floating;
 use std::io;
-use typed::{Reading, Value};
+use typed::Value;
 
 // A negative number by its complement, which is one below its magnitude.
 fn negative_field(rt: &impl Print, complement: u32) -> io::Result<()> {
@@ -38,8 +38,8 @@ fn signed32_field(rt: &impl Print, number: i32) -> io::Result<()> {
 
 fn float_field(rt: &impl Print, number: f32) -> io::Result<()> {
     match float::pattern_of(number) {
-        Pattern::Bits(bits) => field(rt, bits as usize),
-        Pattern::Unknown => text(rt, b" unknown"),
+        Some(bits) => field(rt, bits as usize),
+        None => text(rt, b" unknown"),
     }
 }
 
@@ -86,18 +86,15 @@ fn value_words(rt: &impl Print, value: &Value) -> io::Result<()> {
 
 pub(crate) fn typed_line(rt: &impl Print, bytes: &[u8], out: &mut [u8]) -> io::Result<()> {
     match typed_reader::read(bytes) {
-        Reading::Refused(refusal) => {
-            refused(rt, refusal)?;
-            text(rt, b"\n")
-        }
-        Reading::Value(value) => {
+        Err(refusal) => refused(rt, refusal)?,
+        Ok(value) => {
             text(rt, b"0")?;
             value_words(rt, &value)?;
             let written = typed_writer::write(value, out);
             again(rt, written, out)?;
-            text(rt, b"\n")
         }
     }
+    text(rt, b"\n")
 }
 
 fn written_value(rt: &impl Print, value: Value, out: &mut [u8]) -> io::Result<()> {
@@ -116,8 +113,8 @@ fn boolean_fields(rt: &impl Print, byte: u8, out: &mut [u8]) -> io::Result<()> {
 // An integer, which any bytes are.
 fn integer_fields(rt: &impl Print, bytes: &[u8], out: &mut [u8]) -> io::Result<()> {
     match typed_reader::read(bytes) {
-        Reading::Value(value) => written_value(rt, value, out),
-        Reading::Refused(_) => malformed(rt),
+        Ok(value) => written_value(rt, value, out),
+        Err(_) => malformed(rt),
     }
 }
 

@@ -1,14 +1,12 @@
--- `access_table::find` meets its contract: what was named so far is what the rows behind i name.
+-- `access_table::find` meets its contract: what was named so far is what the rows that were passed name.
 use mathlib.Core.Path.{◌≡◌}
-use Prim.Native.Nat.{◌≤◌}
-use lib.ListN.{drop}
+use mathlib.Core.List.{List, ◌++◌}
+use Rattle.std.specs.Iterator.Adapters.{rev_source}
+use Rattle.std.specs.Slice.Iter.{iter_rest}
 use Rattle.access.specs.Table.{look, services}
+use Rattle.access.specs.declared.table.Row.{Row}
 use Rattle.access_table.proofs.find.Given as goal
 
-abbrev pub invariant-loop-i : goal.invariant-loop-i
-invariant-loop-i l =
-    (l.i ≤ 10) × (l.named ≡ look l.slave l.master (drop l.i services))
-
-abbrev pub decreases-loop-i : goal.decreases-loop-i
-decreases-loop-i l =
-    l.i
+abbrev pub invariant-loop-row : goal.invariant-loop-row
+invariant-loop-row l =
+    (passed : List Row) × (iter_rest (rev_source l.row-iterator) ++ passed ≡ services) × (l.named ≡ look l.slave l.master passed)

@@ -1,23 +1,19 @@
 -- Both ways between an answer and its bytes.
-use Rattle.std.specs.Prelude.{ℕ, ◌-◌, ◌≤◌, ◌≡◌, true, false, List, ◌++◌, length, eqb}
+use Rattle.std.specs.Prelude.{ℕ, ◌-◌, ◌≤◌, ◌≡◌, true, false, List, ◌++◌, length, eqb, Ok, Err, Some}
 use Rattle.std.proofs.Math.Path.{refl}
 use Rattle.std.proofs.Common.{ap, ◌∙◌}
 use Rattle.std.proofs.Math.ListN.{get_or}
 use Rattle.octets.proofs.Choice.{by_pick}
 use Rattle.octets.specs.Front.{Verdict}
-use Rattle.acyclic.specs.Numbers.{read_number, write_number, alarm_ack_number, idle_number, transport_number, negative_number, failed_by, allowed_in_answers}
+use Rattle.acyclic.specs.Numbers.{read_number, write_number, alarm_ack_number, idle_number, transport_number, negative_number, failed_by, allowed_in_answers, Failed}
 use Rattle.acyclic.specs.Forms.{four}
-use Rattle.acyclic.specs.Answers.{refused, answer_at, negative_for, four_of, idle_of, read_answer_of, fixed_bytes, bytes_for, verdict_of, verdict_for}
+use Rattle.acyclic.specs.Answers.{refused, answer_at, negative_for, four_of, idle_of, read_answer_of, fixed_bytes, bytes_for, verdict_of, verdict_for, AnswerReading}
 use Rattle.acyclic.proofs.Lemmas.Forms.{counted_itself, read_four, read_idle}
 use Rattle.acyclic.proofs.Lemmas.Again.{Again, Way, idle_again, plain_again, counted_again, by_reading}
 use Rattle.acyclic.specs.declared.numbers.Function.{Function}
 use Rattle.acyclic.specs.declared.numbers.Function.TheVariants as function
-use Rattle.acyclic.specs.declared.numbers.Failed.{Failed}
-use Rattle.acyclic.specs.declared.numbers.Failed.TheVariants as failed
 use Rattle.acyclic.specs.declared.answers.Answer.{Answer}
 use Rattle.acyclic.specs.declared.answers.Answer.TheVariants as answer
-use Rattle.acyclic.specs.declared.answers.AnswerReading.{AnswerReading}
-use Rattle.acyclic.specs.declared.answers.AnswerReading.TheVariants as reading
 
 -- ---- from the fields
 
@@ -47,16 +43,19 @@ alike (answer.Negative function.Transport decode code1 code2) part = of_four (ne
 -- ---- from the bytes
 
 abbrev pub AgainIn : List ℕ → AnswerReading → Type 0
-AgainIn s (reading.Answer x start len) = Again fixed_bytes verdict_of s x start len
-AgainIn s (reading.Refused r) = Unit
+AgainIn s (Ok found) = Again fixed_bytes verdict_of s found.fields found.start found.len
+AgainIn s (Err r) = Unit
 
-abbrev answers : (s : List ℕ) → Way fixed_bytes verdict_of refused reading.Answer s
+abbrev found : Answer → (start len : ℕ) → AnswerReading
+found x start len = Ok (record { fields = x; start = start; len = len })
+
+abbrev answers : (s : List ℕ) → Way fixed_bytes verdict_of refused found s
 answers s = record { Holds = AgainIn s; of_refusals = λ k. tt; of_accepted = λ x start len a. a }
 
 module _ (s : List ℕ) where
   -- of the function that the number names
   failed_again : 4 ≤ length s → (f : Function) → eqb (get_or s 0 0) (negative_number f) ≡ true
-      → AgainIn s (negative_for (failed.Is f) (get_or s 1 0) (get_or s 2 0) (get_or s 3 0) (length s - 4))
+      → AgainIn s (negative_for (Some f) (get_or s 1 0) (get_or s 2 0) (get_or s 3 0) (length s - 4))
   failed_again long f e =
       rw e at (plain_again (answers s) long (answer.Negative f _ _ _) (refused 28) refl tt)
 

@@ -16,10 +16,7 @@ use Rattle.acyclic.specs.Errors.{good_decode, named_in, good_code1}
 use Rattle.acyclic.specs.Forms.{alone_of, ranged_of, counted_of, counted_as_of, negative_of, by_number, where_allowed}
 use Rattle.acyclic.specs.Calls as calls
 use Rattle.acyclic.specs.Answers as answers
-use Rattle.acyclic.specs.Bytes.{call_accepted, answer_accepted, CallBytes, poll, read_call, write_call, alarm_ack_call, idle_call, transport_call}
-use Rattle.acyclic.specs.Bytes.{FailedNumber, read_failed, write_failed, alarm_ack_failed, transport_failed}
-use Rattle.acyclic.specs.Bytes.{ErrorBytes, class_10_low, class_10_high, class_11, class_12_low, class_12_high, class_13_on, decode_254, decode_255}
-use Rattle.acyclic.specs.Bytes.{AnswerBytes, read_answer, write_answer, alarm_ack_answer, idle_answer, transport_answer, negative_answer}
+use Rattle.acyclic.specs.Bytes.{call_accepted, answer_accepted, CallBytes, poll, read_call, write_call, alarm_ack_call, idle_call, transport_call, FailedNumber, read_failed, write_failed, alarm_ack_failed, transport_failed, ErrorBytes, class_10_low, class_10_high, class_11, class_12_low, class_12_high, class_13_on, decode_254, decode_255, AnswerBytes, read_answer, write_answer, alarm_ack_answer, idle_answer, transport_answer, negative_answer}
 use Rattle.acyclic.proofs.Lemmas.Forms.{counted_within}
 use Rattle.acyclic.specs.declared.numbers.Function.{Function}
 use Rattle.acyclic.specs.declared.numbers.Function.TheVariants as function

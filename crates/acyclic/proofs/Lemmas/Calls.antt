@@ -1,23 +1,21 @@
 -- Both ways between a call and its bytes.
-use Rattle.std.specs.Prelude.{ℕ, ◌-◌, ◌≤◌, ◌≡◌, true, false, List, [], ◌∷◌, ◌++◌, length, get_or, take, eqb}
+use Rattle.std.specs.Prelude.{ℕ, ◌-◌, ◌≤◌, ◌≡◌, true, false, List, [], ◌∷◌, ◌++◌, length, get_or, take, eqb, Ok, Err}
 use Rattle.std.proofs.Math.Path.{refl}
 use Rattle.std.proofs.Common.{ap, ◌∙◌, arith}
 use Rattle.octets.specs.Part.{part_of}
 use Rattle.octets.specs.Front.{Verdict, fine}
 use Rattle.acyclic.specs.Numbers.{read_number, write_number, alarm_ack_number, idle_number, transport_number, call_number, allowed_in_calls}
 use Rattle.acyclic.specs.Forms.{alone_of, four, where_allowed}
-use Rattle.acyclic.specs.Calls.{refused, call_at, four_of, idle_of, read_call_of, fixed_bytes, bytes_for, verdict_of, verdict_for}
+use Rattle.acyclic.specs.Calls.{refused, call_at, four_of, idle_of, read_call_of, fixed_bytes, bytes_for, verdict_of, verdict_for, CallReading}
 use Rattle.acyclic.proofs.Lemmas.Forms.{alone_none, counted_itself, read_four, read_idle}
 use Rattle.acyclic.proofs.Lemmas.Again.{Again, Way, idle_again, plain_again, counted_again, by_reading}
 use Rattle.acyclic.specs.declared.calls.Call.{Call}
 use Rattle.acyclic.specs.declared.calls.Call.TheVariants as call
-use Rattle.acyclic.specs.declared.calls.CallReading.{CallReading}
-use Rattle.acyclic.specs.declared.calls.CallReading.TheVariants as reading
 
 -- ---- from the fields
 
 abbrev none : CallReading
-none = reading.Call call.Poll 0 0
+none = Ok (record { fields = call.Poll; start = 0; len = 0 })
 
 -- four fixed bytes with an allowed number
 of_four : (n a b l : ℕ) (part : List ℕ) → allowed_in_calls n ≡ true → eqb n idle_number ≡ false → read_call_of (four n a b l ++ part) ≡ four_of n a b l (length part)
@@ -40,15 +38,15 @@ alike (call.Transport slot index) part e =
     ∙ ap (λ (v : Verdict). call_at 4 (length part) v (call.Transport slot index)) (counted_itself 0 (length part))
 
 -- and so is accepted where that is fine
-accepted : {r : CallReading} {start len : ℕ} {v : Verdict} {c : Call} → r ≡ call_at start len v c → v ≡ fine → r ≡ reading.Call c start len
+accepted : {r : CallReading} {start len : ℕ} {v : Verdict} {c : Call} → r ≡ call_at start len v c → v ≡ fine → r ≡ Ok (record { fields = c; start = start; len = len })
 accepted {start = start} {len = len} {c = c} e f = e ∙ ap (λ (w : Verdict). call_at start len w c) f
 
 -- one that has none is read as such where nothing follows
-poll_back : (part : List ℕ) → verdict_for call.Poll part ≡ fine → read_call_of (bytes_for call.Poll part) ≡ reading.Call call.Poll 0 (length part)
+poll_back : (part : List ℕ) → verdict_for call.Poll part ≡ fine → read_call_of (bytes_for call.Poll part) ≡ Ok (record { fields = call.Poll; start = 0; len = length part })
 unfolding where_allowed read_call_of
 poll_back part e = rw (alone_none part e)
 
-pub back : (c : Call) (part : List ℕ) → verdict_for c part ≡ fine → read_call_of (bytes_for c part) ≡ reading.Call c (length (fixed_bytes c (length part))) (length part)
+pub back : (c : Call) (part : List ℕ) → verdict_for c part ≡ fine → read_call_of (bytes_for c part) ≡ Ok (record { fields = c; start = length (fixed_bytes c (length part)); len = length part })
 back call.Poll part e = poll_back part e
 back (call.Read slot index len) part e = accepted (alike (call.Read slot index len) part refl) e
 back (call.Write slot index) part e = accepted (alike (call.Write slot index) part refl) e
@@ -68,10 +66,13 @@ first (call.Transport slot index) part e = refl
 -- ---- from the bytes
 
 abbrev pub AgainIn : List ℕ → CallReading → Type 0
-AgainIn s (reading.Call c start len) = Again fixed_bytes verdict_of s c start len
-AgainIn s (reading.Refused r) = Unit
+AgainIn s (Ok found) = Again fixed_bytes verdict_of s found.fields found.start found.len
+AgainIn s (Err r) = Unit
 
-abbrev calls : (s : List ℕ) → Way fixed_bytes verdict_of refused reading.Call s
+abbrev found : Call → (start len : ℕ) → CallReading
+found c start len = Ok (record { fields = c; start = start; len = len })
+
+abbrev calls : (s : List ℕ) → Way fixed_bytes verdict_of refused found s
 calls s = record { Holds = AgainIn s; of_refusals = λ k. tt; of_accepted = λ c start len a. a }
 
 empty_again : (s : List ℕ) → length s ≡ 0 → AgainIn s none

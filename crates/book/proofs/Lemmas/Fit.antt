@@ -1,5 +1,5 @@
 -- Slots, lengths and bodies that make a book: what the writer's verdict and the reader's answer come to.
-use Rattle.std.specs.Prelude.{◌≡◌, not, List, ℕ, ◌+◌, ◌*◌, ◌≤◌, eqb, ltb}
+use Rattle.std.specs.Prelude.{◌≡◌, not, List, ℕ, ◌+◌, ◌*◌, ◌≤◌, eqb, ltb, Ok, Err}
 use Rattle.std.proofs.Math.Path.{refl, sym}
 use Rattle.std.proofs.Common.{ap, ◌∙◌, subst, zero-add}
 use native.Mathlib.Omega.{arith}
@@ -8,15 +8,11 @@ use borrow.Author.Tests.{ltb-false, le-ltb, eqb-true, eq-eqb, not-false}
 use Rattle.octets.proofs.Choice.{by_pick}
 use Rattle.octets.specs.Front.{fine}
 use Rattle.octets.proofs.Fixed.{fault_fine, passed}
-use Rattle.book.specs.Table.{sum_of, table_of}
-use Rattle.book.specs.Reading.{counted, slots_of, lengths_of, bodies_of, bodies_by, read_of}
+use Rattle.book.specs.Table.{sum_of, table_of, Table}
+use Rattle.book.specs.Reading.{counted, slots_of, lengths_of, bodies_of, bodies_by, read_of, Reading}
 use Rattle.book.specs.Writing.{book_bytes, bodies_verdict, verdict_of}
 use Rattle.book.proofs.Lemmas.Good.{Good, same_count, table_taken, table_good}
 use Rattle.book.proofs.Lemmas.Parts.{slots_back, lengths_back, bodies_back, book_long, slots_long, lengths_long}
-use Rattle.book.specs.declared.table.Table.{Table}
-use Rattle.book.specs.declared.table.Table.TheVariants.{Total, Refused}
-use Rattle.book.specs.declared.answers.Reading.{Reading}
-use Rattle.book.specs.declared.answers.Reading.TheVariants as reading
 
 pub record Fit (xs ns b : List ℕ) : Type 0 where
   pub some : 1 ≤ length xs
@@ -28,11 +24,11 @@ pub record Fit (xs ns b : List ℕ) : Type 0 where
 
 module _ (xs ns b : List ℕ) where
   by_table : 1 ≤ length xs → length xs ≤ 16 → length ns ≡ length xs → (t : Table) → table_of 0 0 xs ns ≡ t → bodies_verdict (length b) t ≡ fine → Fit xs ns b
-  by_table some most same (Total t) e v =
+  by_table some most same (Ok t) e v =
       let p = passed 32 (not (eqb (length b) t)) fine v in
       let j = table_good 0 0 xs ns same e in
       record { some = some; most = most; good = j.good; sum = eqb-true (length b) t (not-false _ p.0) ∙ j.sum ∙ zero-add (sum_of ns) }
-  by_table some most same (Refused r) e v = absurd (fault_fine v)
+  by_table some most same (Err r) e v = absurd (fault_fine v)
 
   pub verdict_fit : verdict_of xs ns b ≡ fine → Fit xs ns b
   unfolding verdict_of
@@ -42,8 +38,8 @@ module _ (xs ns b : List ℕ) where
       let r = passed 32 (not (eqb (length ns) (length xs))) _ q.1 in
       by_table (ltb-false _ _ p.0) (ltb-false _ _ q.0) (eqb-true _ _ (not-false _ r.0)) (table_of 0 0 xs ns) refl r.1
 
-  table_total : Fit xs ns b → table_of 0 0 xs ns ≡ Total (length b)
-  table_total f = table_taken 0 f.good ∙ ap Total (zero-add (sum_of ns) ∙ sym f.sum)
+  table_total : Fit xs ns b → table_of 0 0 xs ns ≡ Ok (length b)
+  table_total f = table_taken 0 f.good ∙ ap Ok (zero-add (sum_of ns) ∙ sym f.sum)
 
   pub fit_verdict : Fit xs ns b → verdict_of xs ns b ≡ fine
   unfolding verdict_of
@@ -53,7 +49,7 @@ module _ (xs ns b : List ℕ) where
 
   -- ---- the reader's answer
 
-  pub fit_read : Fit xs ns b → read_of (book_bytes xs ns b) ≡ reading.Book (length xs)
+  pub fit_read : Fit xs ns b → read_of (book_bytes xs ns b) ≡ Ok (length xs)
   unfolding read_of bodies_by
   fit_read f =
       let same = same_count f.good in
@@ -70,14 +66,14 @@ pub record Accepted (s : List ℕ) (n : ℕ) : Type 0 where
 
 module _ (s : List ℕ) where
   abbrev AcceptedIf : Reading → Type 0
-  AcceptedIf (reading.Book n) = Accepted s n
-  AcceptedIf (reading.Refused r) = Unit
+  AcceptedIf (Ok n) = Accepted s n
+  AcceptedIf (Err r) = Unit
 
   by_total : 1 ≤ counted s → counted s ≤ 16 → 1 + 2 * counted s ≤ length s → (t : Table) → table_of 0 0 (slots_of s) (lengths_of s) ≡ t
       → AcceptedIf (bodies_by (length (bodies_of s)) (counted s) t)
   unfolding bodies_by
-  by_total some most table (Refused r) e = tt
-  by_total some most table (Total t) e =
+  by_total some most table (Err r) e = tt
+  by_total some most table (Ok t) e =
       let n = slots_long s in
       let j = table_good 0 0 (slots_of s) (lengths_of s) (lengths_long s ∙ sym n) e in
       by_pick AcceptedIf (ltb (length (bodies_of s)) t) (λ _. tt)
@@ -104,5 +100,5 @@ module _ (s : List ℕ) where
       (λ b. by_pick AcceptedIf (ltb (length s) (1 + 2 * counted s)) (λ _. tt)
       (λ c. by_total (ltb-false _ _ a) (ltb-false _ _ b) (ltb-false _ _ c) (table_of 0 0 (slots_of s) (lengths_of s)) refl))))
 
-  pub accepted : {n : ℕ} → read_of s ≡ reading.Book n → Accepted s n
+  pub accepted : {n : ℕ} → read_of s ≡ Ok n → Accepted s n
   accepted e = subst AcceptedIf e accepted_if

@@ -1,5 +1,5 @@
 -- One template of a book.
-use Rattle.std.specs.Prelude.{◌≡◌, take, drop}
+use Rattle.std.specs.Prelude.{◌≡◌, take, drop, Ok}
 use Rattle.std.proofs.Common.{sym, ◌∙◌, drop-drop}
 use Rattle.std.proofs.Math.Path.{ap}
 use mathlib.Core.List.{List}
@@ -15,9 +15,8 @@ use Rattle.book.specs.Template.{start_of, entry_at, template_by, template_of}
 use Rattle.book.specs.Contents.{stretch_of, Found}
 use Rattle.book.proofs.Lemmas.Fit.{accepted}
 use Rattle.book.proofs.Lemmas.Entries.{sum_front}
-use Rattle.book.specs.declared.answers.Reading.TheVariants as reading
 
-module _ (s : List ℕ) {n : ℕ} (e : read_of s ≡ reading.Book n) (i : ℕ) (h : i < n) where
+module _ (s : List ℕ) {n : ℕ} (e : read_of s ≡ Ok n) (i : ℕ) (h : i < n) where
   pub found : Found s i (get_or (slots_of s) i 0) (get_or (lengths_of s) i 0) (stretch_of (lengths_of s) (bodies_of s) i)
   unfolding template_of entry_at part_of
   found =

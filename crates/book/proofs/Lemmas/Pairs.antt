@@ -1,12 +1,10 @@
 -- A pair of a table, and every second byte.
-use Rattle.std.specs.Prelude.{◌≡◌, refl, Bool, true, List, ◌∷◌, ℕ, zero, suc, ◌+◌, ◌-◌, ◌*◌, ◌≤◌, ◌<◌, get_or, take, leb}
+use Rattle.std.specs.Prelude.{◌≡◌, refl, Bool, true, List, ◌∷◌, ℕ, zero, suc, ◌+◌, ◌-◌, ◌*◌, ◌≤◌, ◌<◌, get_or, take, leb, Ok, Err}
 use Rattle.std.proofs.Common.{ap, ◌∙◌, subst, arith}
 use borrow.Author.Tests.{leb-true, le-leb}
 use Rattle.octets.specs.Choice.{◌and◌}
 use Rattle.octets.proofs.Choice.{by_pick, and_left, and_right}
-use Rattle.book.specs.Table.{every_second, good_pair, pair_of}
-use Rattle.book.specs.declared.table.Table.{Table}
-use Rattle.book.specs.declared.table.Table.TheVariants.{Total, Refused}
+use Rattle.book.specs.Table.{every_second, good_pair, pair_of, Table}
 
 -- ---- a slot and its length that are not refused
 
@@ -33,17 +31,17 @@ good_pair_lem least x n e =
 
 module _ (least total x n : ℕ) where
   abbrev GoodIf : Table → Type 0
-  GoodIf (Total t) = GoodPair least x n × (t ≡ total + n)
-  GoodIf (Refused r) = Unit
+  GoodIf (Ok t) = GoodPair least x n × (t ≡ total + n)
+  GoodIf (Err r) = Unit
 
   judged : GoodIf (pair_of least total x n)
   unfolding pair_of
   judged = by_pick GoodIf (good_pair least x n) (λ e. (good_pair_lem least x n e, refl)) (λ _. tt)
 
-  pub good : {t : ℕ} → pair_of least total x n ≡ Total t → GoodPair least x n × (t ≡ total + n)
+  pub good : {t : ℕ} → pair_of least total x n ≡ Ok t → GoodPair least x n × (t ≡ total + n)
   good e = subst GoodIf e judged
 
-  pub taken : GoodPair least x n → pair_of least total x n ≡ Total (total + n)
+  pub taken : GoodPair least x n → pair_of least total x n ≡ Ok (total + n)
   unfolding pair_of good_pair
   taken g = simp (le-leb _ _ g.rises, le-leb _ _ g.slot, le-leb _ _ g.some, le-leb _ _ g.most)
 

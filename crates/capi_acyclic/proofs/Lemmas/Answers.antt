@@ -1,5 +1,5 @@
 -- Both ways between an answer and its six fields.
-use Rattle.std.specs.Prelude.{ℕ, ◌≡◌, refl, List, length}
+use Rattle.std.specs.Prelude.{ℕ, ◌≡◌, refl, List, length, Ok, Err}
 use Rattle.std.proofs.Common.{◌∙◌}
 use Rattle.octets.specs.Elements.{elements}
 use Rattle.octets.specs.Part.{part_of}
@@ -9,8 +9,7 @@ use Rattle.acyclic.specs.Answers as answers
 use Rattle.acyclic.proofs.Laws.{answer_reads_back, answer_writes_back}
 use Rattle.acyclic.specs.declared.answers.Answer.{Answer}
 use Rattle.acyclic.specs.declared.answers.Answer.TheVariants as answer
-use Rattle.acyclic.specs.declared.answers.AnswerReading.{AnswerReading}
-use Rattle.acyclic.specs.declared.answers.AnswerReading.TheVariants as reading
+use Rattle.acyclic.specs.Answers.{AnswerReading}
 use Rattle.acyclic_fields.specs.Four.{answer_four, answer_places, places_in}
 use Rattle.acyclic_fields.proofs.Laws.{answer_four_named, answer_named_four, answer_named_no_call}
 use Rattle.acyclic_fields.specs.declared.four.Case.{Case}
@@ -35,8 +34,8 @@ pub writes : (s before : List ℕ) (r : AnswerReading) → answers.read_answer_o
     → let k = answer_in (answer_after r before) in
     let part = part_in s (answer_after r before) in
     (verdict_at k part ≡ fine) × (bytes_at k part ≡ s)
-writes s before (reading.Answer x start len) e t z = let a = again s x start len in rw (a.0, a.1) (answer_writes_back s e)
-writes s before (reading.Refused r) e t z = absurd (t z)
+writes s before (Ok found) e t z = let a = again s found.fields found.start found.len in rw (a.0, a.1) (answer_writes_back s e)
+writes s before (Err r) e t z = absurd (t z)
 
 -- ---- from the fields
 

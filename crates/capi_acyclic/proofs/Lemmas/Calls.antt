@@ -1,5 +1,5 @@
 -- Both ways between a call and its six fields.
-use Rattle.std.specs.Prelude.{ℕ, ◌≡◌, refl, List, length}
+use Rattle.std.specs.Prelude.{ℕ, ◌≡◌, refl, List, length, Ok, Err}
 use Rattle.std.proofs.Common.{◌∙◌}
 use Rattle.octets.specs.Elements.{elements}
 use Rattle.octets.specs.Part.{part_of}
@@ -9,8 +9,7 @@ use Rattle.acyclic.specs.Calls as calls
 use Rattle.acyclic.proofs.Laws.{call_reads_back, call_writes_back}
 use Rattle.acyclic.specs.declared.calls.Call.{Call}
 use Rattle.acyclic.specs.declared.calls.Call.TheVariants as call
-use Rattle.acyclic.specs.declared.calls.CallReading.{CallReading}
-use Rattle.acyclic.specs.declared.calls.CallReading.TheVariants as reading
+use Rattle.acyclic.specs.Calls.{CallReading}
 use Rattle.acyclic_fields.specs.Four.{call_four, call_places, places_in}
 use Rattle.acyclic_fields.proofs.Laws.{call_four_named, call_named_four, call_named_no_answer}
 use Rattle.acyclic_fields.specs.declared.four.Case.{Case}
@@ -35,8 +34,8 @@ pub writes : (s before : List ℕ) (r : CallReading) → calls.read_call_of s �
     → let k = call_in (call_after r before) in
     let part = part_in s (call_after r before) in
     (verdict_at k part ≡ fine) × (bytes_at k part ≡ s)
-writes s before (reading.Call c start len) e t z = let a = again s c start len in rw (a.0, a.1) (call_writes_back s e)
-writes s before (reading.Refused r) e t z = absurd (t z)
+writes s before (Ok found) e t z = let a = again s found.fields found.start found.len in rw (a.0, a.1) (call_writes_back s e)
+writes s before (Err r) e t z = absurd (t z)
 
 -- ---- from the fields
 

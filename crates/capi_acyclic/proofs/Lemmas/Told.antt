@@ -2,10 +2,8 @@
 use Rattle.std.specs.Prelude.{ℕ, List}
 use Rattle.acyclic.proofs.Refusals as acyclic
 use Rattle.acyclic.specs.Refusals as acyclic_words
-use Rattle.acyclic.specs.Calls.{read_call_of}
-use Rattle.acyclic.specs.Answers.{read_answer_of}
-use Rattle.acyclic.specs.declared.calls.CallReading.{CallReading}
-use Rattle.acyclic.specs.declared.answers.AnswerReading.{AnswerReading}
+use Rattle.acyclic.specs.Calls.{read_call_of, CallReading}
+use Rattle.acyclic.specs.Answers.{read_answer_of, AnswerReading}
 use Rattle.acyclic_fields.specs.declared.four.Case.{Case}
 use Rattle.fields.specs.Outcome.{Tells}
 use Rattle.fields.proofs.Refusals.{tells}

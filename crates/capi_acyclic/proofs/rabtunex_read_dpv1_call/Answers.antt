@@ -1,23 +1,16 @@
--- `capi_acyclic::rabtunex_read_dpv1_call` meets its contract, by what is read.
-use mathlib.Core.Path.{sym}
+-- `capi_acyclic::rabtunex_read_dpv1_call` meets its contract: where the data stand is small enough for a byte.
+use mathlib.Core.Path.{sym, ap, ◌∙◌}
 use native.Mathlib.Omega.{arith}
+use Rattle.octets.specs.Refusals.{told}
 use Rattle.acyclic.proofs.Laws.{call_small}
 use Rattle.capi_acyclic.proofs.rabtunex_read_dpv1_call.Goals as goal
 
 pub overflow_cast-fields : goal.overflow_cast-fields
 overflow_cast-fields c =
-    let small = call_small c.args.bytes.now (sym c.in-Call.ensures) in
+    let small = call_small c.args.bytes.now (sym c.read_call-reading.ensures ∙ ap told c.in-Ok.is) in
     omega (arith, small.0, small.1)
 
-pub overflow_cast-fields-in-Call : goal.overflow_cast-fields-in-Call
-overflow_cast-fields-in-Call c =
-    let small = call_small c.args.bytes.now (sym c.in-Call.ensures) in
+pub overflow_cast-fields-in-Ok : goal.overflow_cast-fields-in-Ok
+overflow_cast-fields-in-Ok c =
+    let small = call_small c.args.bytes.now (sym c.read_call-reading.ensures ∙ ap told c.in-Ok.is) in
     omega (arith, small.0, small.1)
-
-pub returns-in-Call : goal.returns-in-Call
-returns-in-Call c =
-    record { refusal = simp (sym c.in-Call.ensures); fields = simp (sym c.in-Call.ensures) (rw (← c.call_four-call.ensures)) }
-
-pub returns-in-Refused : goal.returns-in-Refused
-returns-in-Refused c =
-    record { refusal = simp (sym c.in-Refused.ensures); fields = simp (sym c.in-Refused.ensures) }

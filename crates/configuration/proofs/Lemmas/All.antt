@@ -1,5 +1,5 @@
 -- All modules of a configuration: written and read back, read and written again.
-use Rattle.std.specs.Prelude.{◌≡◌, true, length, drop}
+use Rattle.std.specs.Prelude.{◌≡◌, true, length, drop, Ok, Err}
 use Rattle.std.proofs.Math.Path.{refl, sym, ap, ap₂}
 use Rattle.std.proofs.Common.{◌∙◌, arith, zero-add}
 use mathlib.Core.List.{List, [], ◌++◌}
@@ -10,12 +10,11 @@ use Rattle.octets.specs.Bytes.{Bytes}
 use Rattle.octets.specs.Part.{part_of}
 use Rattle.octets.specs.Front.{Verdict, fine, fault}
 use Rattle.octets.proofs.Fixed.{fault_fine}
-use Rattle.configuration.specs.Walk.{Walk, end, bad, more, next_of, walk_of}
+use Rattle.configuration.specs.Walk.{Walk, end, bad, more, next_of, walk_of, Step}
 use Rattle.configuration.specs.Writing.{module_verdict, module_bytes}
 use Rattle.configuration.specs.Contents.{ends_well, walk_bytes, and_then, walk_verdict, Whole}
 use Rattle.configuration.proofs.Lemmas.Steps.{stands, ends, breaks}
 use Rattle.configuration.proofs.Lemmas.One.{back, again}
-use Rattle.configuration.specs.declared.walk.Step.{Step}
 use Rattle.configuration.specs.declared.walk.Step.TheVariants as step
 
 -- two verdicts that are fine together are fine
@@ -49,7 +48,7 @@ module _ (s : List ℕ) (bytes : Bytes s) where
   by_step : (f at : ℕ) → ((k : ℕ) → length s - k ≤ f → Goes k) → length s - at ≤ suc f → at ≤ length s → (x : Step) → next_of s at ≡ x → ends_well (walk_of (drop at s) 0) ≡ true
       → Whole (drop at s)
   unfolding Goes
-  by_step f at go room h (step.Module m start len next) e w =
+  by_step f at go room h (Ok (step.Module m start len next)) e w =
       let k = stands s at e in
       let a = again s bytes at e in
       let v = go next.at (omega (arith, k.further)) k.inside (sym (ap ends_well k.walk) ∙ w) in
@@ -57,8 +56,8 @@ module _ (s : List ℕ) (bytes : Bytes s) where
         taken = ap walk_verdict k.walk ∙ ap₂ and_then a.taken v.taken;
         same = ap walk_bytes k.walk ∙ ap (λ (l : List ℕ). module_bytes m (part_of s start len) ++ l) v.same ∙ sym a.same;
       }
-  by_step f at go room h step.End e w = ended at (ends s at e).0
-  by_step f at go room h (step.Refused r) e w = absurd (never (sym (ap ends_well (breaks s at e h)) ∙ w))
+  by_step f at go room h (Ok step.End) e w = ended at (ends s at e).0
+  by_step f at go room h (Err r) e w = absurd (never (sym (ap ends_well (breaks s at e h)) ∙ w))
 
   goes : (f at : ℕ) → length s - at ≤ f → Goes at
   unfolding Goes

@@ -1,6 +1,6 @@
 -- Between the plain conditions on the bytes of a configuration and the walk over its modules.
 use Rattle.std.proofs.Math.Path.{◌≡◌, ap, ap₂}
-use Rattle.std.specs.Prelude.{refl, eqb, ltb}
+use Rattle.std.specs.Prelude.{refl, eqb, ltb, Ok, Err}
 use Rattle.std.proofs.Common.{◌∙◌, subst}
 use mathlib.Core.List.{List}
 use Prim.Native.Nat.{ℕ, zero, suc, ◌+◌, ◌*◌, ◌-◌, ◌/◌, ◌%◌, ◌≤◌, ◌<◌}
@@ -11,17 +11,16 @@ use borrow.Author.Tests.{ltb-false, le-ltb, eqb-false, ne_eqb}
 use Rattle.octets.specs.Choice.{pick}
 use Rattle.octets.proofs.Choice.{by_pick}
 use Rattle.configuration.specs.Fields.{identifier_of, side_if, general_of, special_of, length_of}
-use Rattle.configuration.specs.Walk.{Found, one, unfit, front_of, barred, special_in, special_by, module_by, module_in, step_of, next_of, Walk, end, bad, more, walk_of}
-use Rattle.configuration.specs.Reading.{input_of, output_of, totals_of}
+use Rattle.configuration.specs.Walk.{Found, one, unfit, front_of, barred, special_in, special_by, module_by, module_in, step_of, next_of, Walk, end, bad, more, walk_of, Step}
+use Rattle.configuration.specs.Reading.{input_of, output_of, total, totals_of}
 use Rattle.configuration.specs.Contents.{Says}
 use Rattle.configuration.specs.Bytes.{side_size, general_input, general_output, special_input, special_output, special_length, ModuleBytes, last, general, special}
 use Rattle.configuration.proofs.Lemmas.Steps.{by_format, by_next, says, stands}
+use Rattle.configuration.proofs.Lemmas.Accepted.{same_modules, same_inputs, same_outputs}
 use Rattle.configuration.specs.declared.fields.Identifier.{Identifier}
 use Rattle.configuration.specs.declared.fields.Identifier.TheVariants.{General, Special}
 use Rattle.configuration.specs.declared.fields.Module.{Module}
-use Rattle.configuration.specs.declared.walk.Step.{Step}
 use Rattle.configuration.specs.declared.walk.Step.TheVariants as step
-use Rattle.configuration.specs.declared.reading.Reading.TheVariants.{Configuration}
 
 -- ---- how many bytes a side has
 
@@ -108,9 +107,9 @@ module _ (s : List ℕ) (at : ℕ) where
 
   -- the same of a step
   abbrev StepBegins : Step → Type 0
-  StepBegins (step.Module m start len next) = (n i o : ℕ) → ModuleBytes s next.at n i o → ModuleBytes s at (suc n) (input_of m + i) (output_of m + o)
-  StepBegins step.End = Unit
-  StepBegins (step.Refused r) = Unit
+  StepBegins (Ok (step.Module m start len next)) = (n i o : ℕ) → ModuleBytes s next.at n i o → ModuleBytes s at (suc n) (input_of m + i) (output_of m + o)
+  StepBegins (Ok step.End) = Unit
+  StepBegins (Err r) = Unit
 
   found_begins : (f : Found) → Begins f → StepBegins (step_of at f)
   found_begins (one m start len) p = p
@@ -133,14 +132,14 @@ pub record Rest (s : List ℕ) (at a b c n i o : ℕ) : Type 0 where
 
 module _ (s : List ℕ) where
   at_end : (at : ℕ) → at ≤ length s → (x : Step) → Says s at x → walk_of (drop at s) 0 ≡ end → at ≡ length s
-  at_end at h (step.Module m start len next) p e = absurd (let q = p.walk in let z : ◌≡◌ {A = ℕ} 0 1 = cc in omega arith)
-  at_end at h step.End p e = p.0
-  at_end at h (step.Refused r) p e = absurd (let q = p h in let z : ◌≡◌ {A = ℕ} 0 1 = cc in omega arith)
+  at_end at h (Ok (step.Module m start len next)) p e = absurd (let q = p.walk in let z : ◌≡◌ {A = ℕ} 0 1 = cc in omega arith)
+  at_end at h (Ok step.End) p e = p.0
+  at_end at h (Err r) p e = absurd (let q = p h in let z : ◌≡◌ {A = ℕ} 0 1 = cc in omega arith)
 
   by_step : (at : ℕ) → at ≤ length s → (m : Module) (v : List ℕ) (w : Walk) (a b c n i o : ℕ) → walk_of (drop at s) 0 ≡ more m v w
       → ((next : ℕ) → next ≤ length s → walk_of (drop next s) 0 ≡ w → Rest s next (a + 1) (b + input_of m) (c + output_of m) n i o)
       → (x : Step) → Says s at x → StepBegins s at x → Rest s at a b c n i o
-  by_step at h m v w a b c n i o e rest (step.Module m' start len next) p q =
+  by_step at h m v w a b c n i o e rest (Ok (step.Module m' start len next)) p q =
       let walk = p.walk in
       let same : m' ≡ m = cc in
       let r = rest next.at p.inside (cc) in
@@ -155,23 +154,20 @@ module _ (s : List ℕ) where
             subst (λ (k : Module). ModuleBytes s at (suc r.count) (input_of k + r.inputs) (output_of k + r.outputs)) same
             (q r.count r.inputs r.outputs r.modules);
       }
-  by_step at h m v w a b c n i o e rest step.End p q = absurd (let y = p.1 in let z : ◌≡◌ {A = ℕ} 0 1 = cc in omega arith)
-  by_step at h m v w a b c n i o e rest (step.Refused r) p q = absurd (let y = p h in let z : ◌≡◌ {A = ℕ} 0 1 = cc in omega arith)
+  by_step at h m v w a b c n i o e rest (Ok step.End) p q = absurd (let y = p.1 in let z : ◌≡◌ {A = ℕ} 0 1 = cc in omega arith)
+  by_step at h m v w a b c n i o e rest (Err r) p q = absurd (let y = p h in let z : ◌≡◌ {A = ℕ} 0 1 = cc in omega arith)
 
-  pub from_walk : (w : Walk) (at : ℕ) → at ≤ length s → walk_of (drop at s) 0 ≡ w → (a b c n i o : ℕ) → totals_of a b c w ≡ Configuration n i o
+  pub from_walk : (w : Walk) (at : ℕ) → at ≤ length s → walk_of (drop at s) 0 ≡ w → (a b c n i o : ℕ) → totals_of a b c w ≡ total n i o
       → Rest s at a b c n i o
   unfolding totals_of
   from_walk end at h e a b c n i o t =
-      let x : a ≡ n = cc in
-      let y : b ≡ i = cc in
-      let z : c ≡ o = cc in
       record {
         count = 0;
         inputs = 0;
         outputs = 0;
-        counted = omega arith;
-        input_sum = omega arith;
-        output_sum = omega arith;
+        counted = omega (arith, same_modules t);
+        input_sum = omega (arith, same_inputs t);
+        output_sum = omega (arith, same_outputs t);
         modules = last (at_end at h (next_of s at) (says s at) e);
       }
   from_walk (bad r) at h e a b c n i o t = absurd (let z : ◌≡◌ {A = ℕ} 0 1 = cc in omega arith)
@@ -180,13 +176,13 @@ module _ (s : List ℕ) where
 
 -- ---- from the modules to the walk
 
-same_totals : {a b c n i o : ℕ} → a ≡ n → b ≡ i → c ≡ o → Configuration a b c ≡ Configuration n i o
+same_totals : {a b c n i o : ℕ} → a ≡ n → b ≡ i → c ≡ o → total a b c ≡ total n i o
 same_totals x y z = cc
 
 module _ (s : List ℕ) (at a b c : ℕ) (m : Module) (start len n i o input output : ℕ) where
   one_more : at < length s → module_in (drop at s) ≡ one m start len → (input_of m ≡ input) × (output_of m ≡ output)
-      → totals_of (a + 1) (b + input_of m) (c + output_of m) (walk_of (drop (at + start + len) s) 0) ≡ Configuration (a + 1 + n) (b + input_of m + i) (c + output_of m + o)
-      → totals_of a b c (walk_of (drop at s) 0) ≡ Configuration (a + suc n) (b + (input + i)) (c + (output + o))
+      → totals_of (a + 1) (b + input_of m) (c + output_of m) (walk_of (drop (at + start + len) s) 0) ≡ total (a + 1 + n) (b + input_of m + i) (c + output_of m + o)
+      → totals_of a b c (walk_of (drop at s) 0) ≡ total (a + suc n) (b + (input + i)) (c + (output + o))
   unfolding totals_of next_of
   one_more h f sides rest =
       let some : at ≡ length s → ⊥ = λ e. omega arith in
@@ -197,7 +193,7 @@ module _ (s : List ℕ) (at a b c : ℕ) (m : Module) (start len n i o input out
       ap (totals_of a b c) (stands s at next).walk ∙ rest ∙ same_totals (omega arith) (omega arith) (omega arith)
 
 pub to_walk : {s : List ℕ} {at n i o : ℕ} → ModuleBytes s at n i o → (a b c : ℕ)
-    → totals_of a b c (walk_of (drop at s) 0) ≡ Configuration (a + n) (b + i) (c + o)
+    → totals_of a b c (walk_of (drop at s) 0) ≡ total (a + n) (b + i) (c + o)
 unfolding totals_of walk_of
 to_walk {s} (last e) a b c = rw (e, drop-length s) (same_totals (omega arith) (omega arith) (omega arith))
 to_walk {s} {at} (general {n = n} {i = i} {o = o} h some w) a b c =
@@ -205,7 +201,7 @@ to_walk {s} {at} (general {n = n} {i = i} {o = o} h some w) a b c =
     let ne : x / 16 % 4 ≡ 0 → ⊥ = λ e. omega arith in
     let p : at + 1 ≡ at + 1 + 0 = omega arith in
     one_more s at a b c (general_of x) 1 0 n i o _ _ h (module_at s at ∙ simp (ne_eqb _ _ ne)) (general_sides x)
-    (subst (λ (k : ℕ). totals_of (a + 1) (b + input_of (general_of x)) (c + output_of (general_of x)) (walk_of (drop k s) 0) ≡ Configuration (a + 1 + n) (b + input_of (general_of x) + i) (c + output_of (general_of x) + o)) p
+    (subst (λ (k : ℕ). totals_of (a + 1) (b + input_of (general_of x)) (c + output_of (general_of x)) (walk_of (drop k s) 0) ≡ total (a + 1 + n) (b + input_of (general_of x) + i) (c + output_of (general_of x) + o)) p
     (to_walk w (a + 1) (b + input_of (general_of x)) (c + output_of (general_of x))))
 to_walk {s} {at} (special {n = n} {i = i} {o = o} z count fits w) a b c =
     let x : ℕ = get_or s at 0 in
@@ -214,5 +210,5 @@ to_walk {s} {at} (special {n = n} {i = i} {o = o} z count fits w) a b c =
     let room : front_of x + x % 16 ≤ length s - at = omega arith in
     let p : at + special_length x ≡ at + front_of x + x % 16 = omega arith in
     one_more s at a b c m (front_of x) (x % 16) n i o _ _ (omega arith) (module_at s at ∙ simp (z, ne_eqb _ _ ne, le-ltb _ _ room)) (special_sides x _ _)
-    (subst (λ (k : ℕ). totals_of (a + 1) (b + input_of m) (c + output_of m) (walk_of (drop k s) 0) ≡ Configuration (a + 1 + n) (b + input_of m + i) (c + output_of m + o)) p
+    (subst (λ (k : ℕ). totals_of (a + 1) (b + input_of m) (c + output_of m) (walk_of (drop k s) 0) ≡ total (a + 1 + n) (b + input_of m + i) (c + output_of m + o)) p
     (to_walk w (a + 1) (b + input_of m) (c + output_of m)))

@@ -1,5 +1,5 @@
 -- One module among other bytes: written and read back, read and written again.
-use Rattle.std.specs.Prelude.{◌≡◌, refl, ℕ, ◌+◌, ◌≤◌, ◌<◌, take, drop, leb}
+use Rattle.std.specs.Prelude.{◌≡◌, refl, ℕ, ◌+◌, ◌≤◌, ◌<◌, take, drop, leb, Ok, Err}
 use Rattle.std.proofs.Math.Path.{sym, ap}
 use Rattle.std.proofs.Common.{◌∙◌, subst, arith, length-append, length-drop, take-append-drop, get_or-drop, drop-drop, drop_at}
 use mathlib.Core.List.{List, [], ◌∷◌, ◌++◌, append_assoc}
@@ -10,7 +10,7 @@ use Rattle.octets.proofs.Choice.{by_pick}
 use Rattle.octets.specs.Bytes.{Bytes}
 use Rattle.octets.specs.Part.{part_of}
 use Rattle.octets.specs.Front.{fine}
-use Rattle.configuration.specs.Walk.{Found, one, unfit, module_in, position, step_of, next_of}
+use Rattle.configuration.specs.Walk.{Found, one, unfit, module_in, position, step_of, next_of, Step}
 use Rattle.configuration.specs.Writing.{presence, side_bytes, special_byte, special_bytes, verdict_by, bytes_by, vendor_by, vendor_start, module_verdict, module_bytes}
 use Rattle.configuration.specs.Contents.{Reads, Again}
 use Rattle.configuration.proofs.Lemmas.Sides.{side_bytes_length, special_length_lem}
@@ -22,7 +22,6 @@ use Rattle.configuration.specs.declared.fields.Identifier.{Identifier}
 use Rattle.configuration.specs.declared.fields.Identifier.TheVariants.{General, Special}
 use Rattle.configuration.specs.declared.fields.Module.{Module}
 use Rattle.configuration.specs.declared.walk.Position.{Position}
-use Rattle.configuration.specs.declared.walk.Step.{Step}
 use Rattle.configuration.specs.declared.walk.Step.TheVariants as step
 
 -- ---- the vendor bytes of what is written
@@ -103,7 +102,7 @@ module _ (m : Module) (vendor front behind : List ℕ) (e : module_verdict m ven
       record {
         fields =
             simp (le-ltb _ _ before, ne_eqb _ _ ne, rest_is, module_read m.identifier m.input m.output vendor behind e)
-            (ap (λ (k : ℕ). step.Module m (at + vendor_start m) (length vendor) (position k)) ends);
+            (ap (λ (k : ℕ). Ok (step.Module m (at + vendor_start m) (length vendor) (position k))) ends);
         part =
             sym (part_drop s at (vendor_start m) (length vendor) (omega (arith, long, ends)))
             ∙ ap (λ (l : List ℕ). part_of l (vendor_start m) (length vendor)) rest_is
@@ -113,9 +112,9 @@ module _ (m : Module) (vendor front behind : List ℕ) (e : module_verdict m ven
 -- ---- what is read is written again
 
 abbrev AgainIf : (s : List ℕ) (at : ℕ) → Step → Type 0
-AgainIf s at (step.Module m start len next) = Again s at m start len next.at
-AgainIf s at step.End = Unit
-AgainIf s at (step.Refused r) = Unit
+AgainIf s i (Ok (step.Module m start len next)) = Again s i m start len next.at
+AgainIf s i (Ok step.End) = Unit
+AgainIf s i (Err r) = Unit
 
 module _ (s : List ℕ) (bytes : Bytes s) (at : ℕ) where
   rest_bytes : Bytes (drop at s)
@@ -140,5 +139,5 @@ module _ (s : List ℕ) (bytes : Bytes s) (at : ℕ) where
   again_if : AgainIf s at (next_of s at)
   again_if = by_next (AgainIf s at) s at (λ _. tt) (λ _. tt) by_found
 
-  pub again : {m : Module} {start len : ℕ} {next : Position} → next_of s at ≡ step.Module m start len next → Again s at m start len next.at
+  pub again : {m : Module} {start len : ℕ} {next : Position} → next_of s at ≡ Ok (step.Module m start len next) → Again s at m start len next.at
   again e = subst (AgainIf s at) e again_if

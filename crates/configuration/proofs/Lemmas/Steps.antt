@@ -1,20 +1,18 @@
 -- A walk goes from step to step: what `next_of` gives at a place is how the walk from there goes on.
-use Rattle.std.specs.Prelude.{◌≡◌, refl, List, [], ◌∷◌, ℕ, zero, suc, ◌+◌, ◌-◌, ◌/◌, ◌%◌, ◌≤◌, ◌<◌, length, get_or, drop, eqb, ltb}
+use Rattle.std.specs.Prelude.{◌≡◌, refl, List, [], ◌∷◌, ℕ, zero, suc, ◌+◌, ◌-◌, ◌/◌, ◌%◌, ◌≤◌, ◌<◌, length, get_or, drop, eqb, ltb, Ok, Err}
 use Rattle.std.proofs.Common.{ap, ◌∙◌, subst, arith, length-drop, drop-cons, drop-drop, ltb-true, ltb-false, eqb-true, le-leb}
 use Rattle.std.proofs.Math.Seq.{drop-length}
 use Rattle.std.proofs.lemmas.Bool.{eqb-false}
 use Rattle.octets.proofs.Choice.{by_pick}
 use Rattle.octets.specs.Part.{part_of}
-use Rattle.octets.specs.declared.Refusal.{Refusal}
 use Rattle.configuration.specs.Fields.{identifier_of, input_bit, output_bit, most_units, words_bit, side_if, general_of, special_of, length_of}
-use Rattle.configuration.specs.Walk.{Found, one, unfit, front_of, barred, special_in, module_by, module_in, step_of, next_of, end, bad, more, after, walk_of}
+use Rattle.configuration.specs.Walk.{Found, one, unfit, front_of, barred, special_in, module_by, module_in, step_of, next_of, end, bad, more, after, walk_of, Step}
 use Rattle.configuration.specs.Reading.{input_of, output_of}
 use Rattle.configuration.specs.Contents.{Stands, Says}
 use Rattle.configuration.specs.declared.fields.Identifier.{Identifier}
 use Rattle.configuration.specs.declared.fields.Identifier.TheVariants.{General, Special}
 use Rattle.configuration.specs.declared.fields.Module.{Module}
 use Rattle.configuration.specs.declared.walk.Position.{Position}
-use Rattle.configuration.specs.declared.walk.Step.{Step}
 use Rattle.configuration.specs.declared.walk.Step.TheVariants as step
 
 -- what holds of both formats, each under its bits 5-4, holds of an identifier's
@@ -81,7 +79,7 @@ part_drop s at start len h =
     simp (le-leb _ _ a, le-leb _ _ h, drop-drop)
 
 -- what holds past the end, at the end, and of whatever is found before it, holds of the step
-pub by_next : (P : Step → Type 0) (s : List ℕ) (at : ℕ) → (length s < at → P (step.Refused (record { number = 12 }))) → (at ≡ length s → P step.End)
+pub by_next : (P : Step → Type 0) (s : List ℕ) (at : ℕ) → (length s < at → P (Err 12)) → (at ≡ length s → P (Ok step.End))
     → (at < length s → (f : Found) → SizedIf (length (drop at s)) f → module_in (drop at s) ≡ f → P (step_of at f)) → P (next_of s at)
 unfolding next_of
 by_next P s at past last found =
@@ -126,11 +124,11 @@ module _ (s : List ℕ) (at : ℕ) where
   says = by_next (Says s at) s at (λ p q. absurd (omega arith)) (λ e. (e, ended e)) by_found
 
   -- the three outcomes
-  pub stands : {m : Module} {start len : ℕ} {next : Position} → next_of s at ≡ step.Module m start len next → Stands s at m start len next.at
+  pub stands : {m : Module} {start len : ℕ} {next : Position} → next_of s at ≡ Ok (step.Module m start len next) → Stands s at m start len next.at
   stands e = subst (Says s at) e says
 
-  pub ends : next_of s at ≡ step.End → (at ≡ length s) × (walk_of (drop at s) 0 ≡ end)
+  pub ends : next_of s at ≡ Ok step.End → (at ≡ length s) × (walk_of (drop at s) 0 ≡ end)
   ends e = subst (Says s at) e says
 
-  pub breaks : {r : Refusal} → next_of s at ≡ step.Refused r → at ≤ length s → walk_of (drop at s) 0 ≡ bad r
+  pub breaks : {r : ℕ} → next_of s at ≡ Err r → at ≤ length s → walk_of (drop at s) 0 ≡ bad r
   breaks e = subst (Says s at) e says

@@ -1,5 +1,5 @@
 -- What is read may be written, and gives the same bytes again.
-use Rattle.std.specs.Prelude.{ℕ, ◌+◌, ◌-◌, ◌≤◌, ◌≡◌, List, [], length, take, drop, ltb}
+use Rattle.std.specs.Prelude.{ℕ, ◌+◌, ◌-◌, ◌≤◌, ◌≡◌, List, [], length, take, drop, ltb, Ok, Err}
 use Rattle.std.proofs.Math.Path.{refl, ap}
 use Rattle.std.proofs.Common.{sym, ◌∙◌, arith, le_trans, length-take-le, drop_at, ltb-false, le-ltb}
 use Rattle.octets.specs.Choice.{pick}
@@ -9,59 +9,44 @@ use Rattle.octets.specs.Part.{part_of}
 use Rattle.octets.specs.Front.{Verdict, fine}
 use Rattle.octets.proofs.Fixed.{by_verdict, part_behind, part_tiles}
 use Rattle.octets.specs.declared.Mode.{Mode}
-use Rattle.acyclic.specs.Answers.{read_answer_of}
-use Rattle.acyclic.specs.Calls.{read_call_of}
+use Rattle.acyclic.specs.Answers.{read_answer_of, AnswerReading}
+use Rattle.acyclic.specs.Calls.{read_call_of, CallReading}
 use Rattle.acyclic.proofs.Laws.{call_writes_back, call_data_inside, answer_writes_back, answer_data_inside}
 use Rattle.acyclic.proofs.Lemmas.Again.{part_count}
-use Rattle.acyclic.specs.declared.answers.AnswerReading.{AnswerReading}
-use Rattle.acyclic.specs.declared.answers.AnswerReading.TheVariants as answer-reading
-use Rattle.acyclic.specs.declared.calls.CallReading.{CallReading}
-use Rattle.acyclic.specs.declared.calls.CallReading.TheVariants as call-reading
-use Rattle.address_change.specs.Address.{verdict_of as addressVerdict, fields_in as addressFields, read_of as readAddress}
+use Rattle.address_change.specs.Address.{verdict_of as addressVerdict, fields_in as addressFields, read_of as readAddress, AddressReading}
 use Rattle.address_change.proofs.Laws.{address_writes_back}
-use Rattle.address_change.specs.declared.AddressReading.{AddressReading}
-use Rattle.address_change.specs.declared.AddressReading.TheVariants as address-reading
 use Rattle.configuration.specs.Contents.{accepted}
 use Rattle.configuration.proofs.Laws.{configuration_writes_back}
 use Rattle.configuration.specs.Reading.{read_of as readConfiguration}
 use Rattle.configuration.specs.Writing.{verdict_of as configurationVerdict}
-use Rattle.configuration.specs.declared.reading.Reading as configuration-type
-use Rattle.configuration.specs.declared.reading.Reading.TheVariants as configuration-reading
-use Rattle.control.specs.Command.{verdict_of as commandVerdict, fields_in as commandFields, read_of as readCommand}
+use Rattle.configuration.specs.Reading as configuration-type
+use Rattle.control.specs.Command.{verdict_of as commandVerdict, fields_in as commandFields, read_of as readCommand, CommandReading}
 use Rattle.control.proofs.Laws.{command_writes_back}
-use Rattle.control.specs.declared.command.CommandReading.{CommandReading}
-use Rattle.control.specs.declared.command.CommandReading.TheVariants as command-reading
 use Rattle.diagnosis.specs.Contents as contents
 use Rattle.diagnosis.proofs.Laws as diagnosis
-use Rattle.diagnosis.specs.Reading.{judge, header_of, answered, read_of as readDiagnosis}
+use Rattle.diagnosis.specs.Reading.{judge, header_of, answered, read_of as readDiagnosis, Count}
 use Rattle.diagnosis.specs.Writing.{diagnosis_bytes, verdict_of}
-use Rattle.diagnosis.specs.declared.reading.Count.{Count}
-use Rattle.diagnosis.specs.declared.reading.Count.TheVariants as count
-use Rattle.diagnosis.specs.declared.reading.Reading as diagnosis-type
-use Rattle.diagnosis.specs.declared.reading.Reading.TheVariants as diagnosis-reading
+use Rattle.diagnosis.specs.Reading as diagnosis-type
 use Rattle.parameters.specs.Fields.{fixed_length as modeLength, verdict_of as parametersVerdict}
 use Rattle.parameters.proofs.Laws as parameters
 use Rattle.parameters.specs.Reading.{extension_in, fields_in as parametersFields, read_of as readParameters}
-use Rattle.parameters.specs.declared.reading.Reading as parameters-type
-use Rattle.parameters.specs.declared.reading.Reading.TheVariants as parameters-reading
+use Rattle.parameters.specs.Reading as parameters-type
 use Rattle.access.specs.Route.{answerer_of}
 use Rattle.access.specs.declared.table.Service.{Service}
 use Rattle.access.specs.declared.table.Service.TheVariants as service
 use Rattle.access.specs.declared.route.Answering.{Answering}
 use Rattle.access.specs.declared.route.Answering.TheVariants as answering
 use Rattle.content.specs.Fields.{service_of, fixed_length, IdentFits, Fits, FitsEvery}
-use Rattle.content.specs.Reading.{refused, plain_of, empty_of, address_in, command_in, diagnosis_in, parameters_in, configuration_in, dpv1_call_in, dpv1_answer_in, call_of, answer_of}
+use Rattle.content.specs.Reading.{refused, plain_of, empty_of, address_in, command_in, diagnosis_in, parameters_in, configuration_in, dpv1_call_in, dpv1_answer_in, call_of, answer_of, UserData}
 use Rattle.content.specs.Writing.{bytes_for, at_most, call_verdict, answer_verdict, Again}
 use Rattle.content.proofs.Lemmas.Lengths.{bytes_long}
 use Rattle.content.specs.declared.fields.Content.{Content}
 use Rattle.content.specs.declared.fields.Content.TheVariants as content
-use Rattle.content.specs.declared.reading.UserData.{UserData}
-use Rattle.content.specs.declared.reading.UserData.TheVariants.{Is, Refused}
 
 -- where user data have a content, this holds of it and its part
 abbrev pub Holds : (Content → (start len : ℕ) → Type 0) → UserData → Type 0
-Holds P (Is c start len) = P c start len
-Holds P (Refused r) = Unit
+Holds P (Ok found) = P found.fields found.start found.len
+Holds P (Err r) = Unit
 
 -- ---- where the part begins, and that two bytes hold the ident number
 
@@ -92,8 +77,8 @@ diagnosis_from u b =
     by_pick (λ (r : diagnosis-type.Reading). From 6 (diagnosis_in r (length u))) (ltb (length u) 6) (λ _. tt) (λ _. counted (judge (header_of u) (drop 6 u)))
   where
     counted : (k : Count) → From 6 (diagnosis_in (answered (header_of u) k) (length u))
-    counted (count.Blocks n) = (refl, omega (arith, b 4, b 5))
-    counted (count.Refused r) = tt
+    counted (Ok n) = (refl, omega (arith, b 4, b 5))
+    counted (Err r) = tt
 
 module _ (u : List ℕ) (bytes : Bytes u) where
   -- ---- the part
@@ -123,14 +108,14 @@ module _ (u : List ℕ) (bytes : Bytes u) where
         record { service = refl; fits = fits; front = none; taken = ap (verdict c) whole ∙ good; same = ap (bytes_for c) whole ∙ same }
 
     -- what is read is no more than what may be written
-    at_most_again : {limit most : ℕ} → verdict c u ≡ at_most most u → limit ≤ most → Kept (pick (ltb limit (length u)) (refused 20) (Is c 0 (length u)))
+    at_most_again : {limit most : ℕ} → verdict c u ≡ at_most most u → limit ≤ most → Kept (pick (ltb limit (length u)) (refused 20) (Ok (record { fields = c; start = 0; len = length u })))
     unfolding at_most
     at_most_again {limit} {most} e h =
         by_pick Kept (ltb limit (length u)) (λ _. tt) (λ t. whole_again (e ∙ simp (le-ltb _ _ (le_trans (ltb-false _ _ t) h))))
 
     configuration_again : verdict c u ≡ configurationVerdict u → (r : configuration-type.Reading) → readConfiguration u ≡ r → Kept (configuration_in c r (length u))
-    configuration_again e (configuration-reading.Configuration modules i o) h = whole_again (e ∙ (configuration_writes_back u bytes (ap accepted h)).taken)
-    configuration_again e (configuration-reading.Refused r) h = tt
+    configuration_again e (Ok found) h = whole_again (e ∙ (configuration_writes_back u bytes (ap accepted h)).taken)
+    configuration_again e (Err r) h = tt
 
   -- ---- calls
 
@@ -140,31 +125,31 @@ module _ (u : List ℕ) (bytes : Bytes u) where
 
     address_again : (r : AddressReading) → readAddress u ≡ r → From 4 (address_in r) → Called service.SetSlaveAdr (address_in r)
     unfolding call_verdict bytes_for
-    address_again (address-reading.Change f start len) e s =
+    address_again (Ok found) e s =
         let w = address_writes_back u bytes e in
         record { service = refl; fits = (tt, s.1); front = s.0; taken = w.0; same = w.1 }
-    address_again (address-reading.Refused r) e s = tt
+    address_again (Err r) e s = tt
 
     command_again : (r : CommandReading) → readCommand u ≡ r → From 2 (command_in r) → Called service.GlobalControl (command_in r)
     unfolding call_verdict bytes_for
-    command_again (command-reading.Command f start len) e s =
+    command_again (Ok found) e s =
         let w = command_writes_back u e in
         record { service = refl; fits = (tt, s.1); front = s.0; taken = w.0; same = w.1 }
-    command_again (command-reading.Refused r) e s = tt
+    command_again (Err r) e s = tt
 
     parameters_again : (r : parameters-type.Reading) → readParameters u m ≡ r → From (modeLength m) (parameters_in r) → Called service.SetPrm (parameters_in r)
     unfolding call_verdict bytes_for
-    parameters_again (parameters-reading.Parameters f start len) e s =
+    parameters_again (Ok found) e s =
         let w = parameters.writes_back u bytes m e in
         record { service = refl; fits = (w.mode, s.1); front = s.0 ∙ ap modeLength (sym w.mode); taken = w.taken; same = w.same }
-    parameters_again (parameters-reading.Refused r) e s = tt
+    parameters_again (Err r) e s = tt
 
     dpv1_call_again : (r : CallReading) → read_call_of u ≡ r → Called service.Dpv1 (dpv1_call_in r)
     unfolding call_verdict bytes_for
-    dpv1_call_again (call-reading.Call c start len) e =
+    dpv1_call_again (Ok found) e =
         let w = call_writes_back u e in
-        record { service = refl; fits = (tt, tt); front = front_is (content.Dpv1Call c) start len (call_data_inside u e) w.1; taken = w.0; same = w.1 }
-    dpv1_call_again (call-reading.Refused r) e = tt
+        record { service = refl; fits = (tt, tt); front = front_is (content.Dpv1Call found.fields) found.start found.len (call_data_inside u e) w.1; taken = w.0; same = w.1 }
+    dpv1_call_again (Err r) e = tt
 
     pub call_again : (s : Service) → Called s (call_of s u m)
     unfolding call_of plain_of empty_of bytes_for call_verdict
@@ -189,24 +174,24 @@ module _ (u : List ℕ) (bytes : Bytes u) where
   diagnosis_again : (r : diagnosis-type.Reading) → readDiagnosis u ≡ r → From 6 (diagnosis_in r (length u))
       → Answered service.SlaveDiag (diagnosis_in r (length u))
   unfolding answer_verdict bytes_for
-  diagnosis_again (diagnosis-reading.Diagnosis h n) e s =
+  diagnosis_again (Ok found) e s =
       let w = diagnosis.writes_back u bytes (ap contents.accepted e) in
       let p = rest 6 (diagnosis.read_is_tiled u e).long in
       record {
         service = refl;
         fits = λ m. (tt, s.1);
         front = s.0;
-        taken = ap (verdict_of h) (sym p) ∙ ap (λ (r : diagnosis-type.Reading). contents.verdict_for (contents.contents_in u r)) (sym e) ∙ w.taken;
-        same = ap (diagnosis_bytes h) (sym p) ∙ ap (λ (r : diagnosis-type.Reading). contents.bytes_for (contents.contents_in u r)) (sym e) ∙ w.same;
+        taken = ap (verdict_of found.header) (sym p) ∙ ap (λ (r : diagnosis-type.Reading). contents.verdict_for (contents.contents_in u r)) (sym e) ∙ w.taken;
+        same = ap (diagnosis_bytes found.header) (sym p) ∙ ap (λ (r : diagnosis-type.Reading). contents.bytes_for (contents.contents_in u r)) (sym e) ∙ w.same;
       }
-  diagnosis_again (diagnosis-reading.Refused r) e s = tt
+  diagnosis_again (Err r) e s = tt
 
   dpv1_answer_again : (r : AnswerReading) → read_answer_of u ≡ r → Answered service.Dpv1 (dpv1_answer_in r)
   unfolding answer_verdict bytes_for
-  dpv1_answer_again (answer-reading.Answer x start len) e =
+  dpv1_answer_again (Ok found) e =
       let w = answer_writes_back u e in
-      record { service = refl; fits = λ m. (tt, tt); front = front_is (content.Dpv1Answer x) start len (answer_data_inside u e) w.1; taken = w.0; same = w.1 }
-  dpv1_answer_again (answer-reading.Refused r) e = tt
+      record { service = refl; fits = λ m. (tt, tt); front = front_is (content.Dpv1Answer found.fields) found.start found.len (answer_data_inside u e) w.1; taken = w.0; same = w.1 }
+  dpv1_answer_again (Err r) e = tt
 
   pub answer_again : (a : Answering) → Answered (answerer_of a) (answer_of a u)
   unfolding answer_of plain_of bytes_for answer_verdict

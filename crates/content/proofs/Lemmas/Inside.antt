@@ -1,5 +1,5 @@
 -- The part that a service's fields leave lies inside the user data.
-use Rattle.std.specs.Prelude.{ℕ, ◌+◌, ◌-◌, ◌≤◌, ◌≡◌, refl, not, List, length, get_or, eqb, ltb}
+use Rattle.std.specs.Prelude.{ℕ, ◌+◌, ◌-◌, ◌≤◌, ◌≡◌, refl, not, List, length, get_or, eqb, ltb, Ok, Err}
 use Rattle.std.proofs.Common.{arith, ltb-false, eqb-true}
 use Rattle.std.proofs.lemmas.Bool.{not-false}
 use Rattle.octets.specs.Choice.{pick}
@@ -7,35 +7,25 @@ use Rattle.octets.proofs.Choice.{by_pick}
 use Rattle.octets.specs.Front.{fine, fault}
 use Rattle.octets.proofs.Fixed.{by_verdict, passed}
 use Rattle.octets.specs.declared.Mode.{Mode}
-use Rattle.acyclic.specs.Answers.{read_answer_of}
-use Rattle.acyclic.specs.Calls.{read_call_of}
+use Rattle.acyclic.specs.Answers.{read_answer_of, AnswerReading}
+use Rattle.acyclic.specs.Calls.{read_call_of, CallReading}
 use Rattle.acyclic.proofs.Laws.{call_data_inside, answer_data_inside}
-use Rattle.acyclic.specs.declared.answers.AnswerReading.{AnswerReading}
-use Rattle.acyclic.specs.declared.answers.AnswerReading.TheVariants as answer-reading
-use Rattle.acyclic.specs.declared.calls.CallReading.{CallReading}
-use Rattle.acyclic.specs.declared.calls.CallReading.TheVariants as call-reading
-use Rattle.address_change.specs.Address.{verdict_of as addressVerdict, fields_in as addressFields, read_of as readAddress}
-use Rattle.address_change.specs.declared.AddressReading.{AddressReading}
+use Rattle.address_change.specs.Address.{verdict_of as addressVerdict, fields_in as addressFields, read_of as readAddress, AddressReading}
 use Rattle.configuration.specs.Reading.{read_of as readConfiguration}
-use Rattle.configuration.specs.declared.reading.Reading as configuration-type
-use Rattle.configuration.specs.declared.reading.Reading.TheVariants as configuration-reading
-use Rattle.control.specs.Command.{good_command, verdict_of as commandVerdict, fields_in as commandFields, read_of as readCommand}
-use Rattle.control.specs.declared.command.CommandReading.{CommandReading}
+use Rattle.configuration.specs.Reading as configuration-type
+use Rattle.control.specs.Command.{good_command, verdict_of as commandVerdict, fields_in as commandFields, read_of as readCommand, CommandReading}
 use Rattle.diagnosis.specs.Reading.{read_of as readDiagnosis}
 use Rattle.diagnosis.proofs.Laws.{read_is_tiled}
-use Rattle.diagnosis.specs.declared.reading.Reading as diagnosis-type
-use Rattle.diagnosis.specs.declared.reading.Reading.TheVariants as diagnosis-reading
+use Rattle.diagnosis.specs.Reading as diagnosis-type
 use Rattle.parameters.specs.Fields.{fixed_length, verdict_of as parametersVerdict}
 use Rattle.parameters.specs.Reading.{extension_in, fields_in as parametersFields, read_of as readParameters}
-use Rattle.parameters.specs.declared.reading.Reading as parameters-type
-use Rattle.content.specs.Reading.{refused, end_of, plain_of, empty_of, address_in, command_in, diagnosis_in, parameters_in, configuration_in, dpv1_call_in, dpv1_answer_in, call_of, answer_of}
+use Rattle.parameters.specs.Reading as parameters-type
+use Rattle.content.specs.Reading.{refused, end_of, plain_of, empty_of, address_in, command_in, diagnosis_in, parameters_in, configuration_in, dpv1_call_in, dpv1_answer_in, call_of, answer_of, UserData}
 use Rattle.access.specs.declared.table.Service.{Service}
 use Rattle.access.specs.declared.table.Service.TheVariants as service
 use Rattle.access.specs.declared.route.Answering.{Answering}
 use Rattle.access.specs.declared.route.Answering.TheVariants as answering
 use Rattle.content.specs.declared.fields.Content.{Content}
-use Rattle.content.specs.declared.reading.UserData.{UserData}
-use Rattle.content.specs.declared.reading.UserData.TheVariants.{Is}
 
 none : (n : ℕ) → 0 ≤ n
 none n = omega arith
@@ -49,7 +39,7 @@ behind k n h = omega arith
 -- ---- each format
 
 -- plain bytes, and none
-at_most_inside : (limit : ℕ) (c : Content) (n : ℕ) → end_of (pick (ltb limit n) (refused 20) (Is c 0 n)) ≤ n
+at_most_inside : (limit : ℕ) (c : Content) (n : ℕ) → end_of (pick (ltb limit n) (refused 20) (Ok (record { fields = c; start = 0; len = n }))) ≤ n
 at_most_inside limit c n = by_pick (λ (d : UserData). end_of d ≤ n) (ltb limit n) (λ _. none n) (λ _. all n)
 
 address_inside : (u : List ℕ) → end_of (address_in (readAddress u)) ≤ length u
@@ -76,26 +66,26 @@ parameters_inside u m =
     (λ _. none (length u)) (λ _. behind (fixed_length m) (length u) (ltb-false _ _ l)))
 
 diagnosis_inside : (u : List ℕ) (r : diagnosis-type.Reading) → readDiagnosis u ≡ r → end_of (diagnosis_in r (length u)) ≤ length u
-diagnosis_inside u (diagnosis-reading.Diagnosis h n) e = behind 6 (length u) (read_is_tiled u e).long
-diagnosis_inside u (diagnosis-reading.Refused r) e = none (length u)
+diagnosis_inside u (Ok found) e = behind 6 (length u) (read_is_tiled u e).long
+diagnosis_inside u (Err r) e = none (length u)
 
 configuration_inside : (c : Content) (n : ℕ) (r : configuration-type.Reading) → end_of (configuration_in c r n) ≤ n
-configuration_inside c n (configuration-reading.Configuration modules i o) = all n
-configuration_inside c n (configuration-reading.Refused r) = none n
+configuration_inside c n (Ok found) = all n
+configuration_inside c n (Err r) = none n
 
 dpv1_call_inside : (u : List ℕ) (r : CallReading) → read_call_of u ≡ r → end_of (dpv1_call_in r) ≤ length u
-dpv1_call_inside u (call-reading.Call c start len) e =
-    let h : start + len ≡ length u = call_data_inside u e in
-    let i : start + len ≤ length u = omega (arith, h) in
+dpv1_call_inside u (Ok found) e =
+    let h : found.start + found.len ≡ length u = call_data_inside u e in
+    let i : found.start + found.len ≤ length u = omega (arith, h) in
     i
-dpv1_call_inside u (call-reading.Refused r) e = none (length u)
+dpv1_call_inside u (Err r) e = none (length u)
 
 dpv1_answer_inside : (u : List ℕ) (r : AnswerReading) → read_answer_of u ≡ r → end_of (dpv1_answer_in r) ≤ length u
-dpv1_answer_inside u (answer-reading.Answer x start len) e =
-    let h : start + len ≡ length u = answer_data_inside u e in
-    let i : start + len ≤ length u = omega (arith, h) in
+dpv1_answer_inside u (Ok found) e =
+    let h : found.start + found.len ≡ length u = answer_data_inside u e in
+    let i : found.start + found.len ≤ length u = omega (arith, h) in
     i
-dpv1_answer_inside u (answer-reading.Refused r) e = none (length u)
+dpv1_answer_inside u (Err r) e = none (length u)
 
 -- ---- each service
 

@@ -4,19 +4,13 @@ use mathlib.Core.Bool.{Bool}
 use Rattle.octets.specs.Choice.{pick}
 use Rattle.octets.specs.Part.{part_of}
 use Rattle.octets.specs.declared.Mode.TheVariants as mode
-use Rattle.fdl.specs.declared.reading.Reading.{Reading}
+use Rattle.fdl.specs.Reading.{Reading}
 use Rattle.access.specs.Route.{route_of}
 use Rattle.service.specs.Reading.{service_in, read_of}
 use Rattle.protocol.specs.Controller.{other, got_by}
 use Rattle.controller_input.specs.Meaning.{got_of_route}
 use Rattle.controller_input.proofs.Routed.{route_got}
 use Rattle.controller_input.proofs.heard.Goals as goal
-
-pub returns-then-not-is_printers : goal.returns-then-not-is_printers
-returns-then-not-is_printers c = simp (sym c.is_printers.ensures ∙ c.if-not-is_printers.true)
-
-pub routed-requires : goal.routed-requires
-routed-requires c = c.requires.0
 
 pub returns : goal.returns
 unfolding read_of

@@ -1,5 +1,5 @@
 -- What one block writer stores is found, and says what was written.
-use Rattle.std.specs.Prelude.{◌≡◌, Bool, true, not, List, ◌++◌, ℕ, ◌+◌, ◌-◌, ◌*◌, ◌/◌, ◌%◌, ◌≤◌, eqb, ltb, leb}
+use Rattle.std.specs.Prelude.{◌≡◌, Bool, true, not, List, ◌++◌, ℕ, ◌+◌, ◌-◌, ◌*◌, ◌/◌, ◌%◌, ◌≤◌, eqb, ltb, leb, Ok}
 use Rattle.std.proofs.Common.{sym, ap, ◌∙◌}
 use native.Mathlib.Omega.{arith}
 use Rattle.std.proofs.Math.ListN.{length, length-append}
@@ -15,7 +15,6 @@ use Rattle.diagnosis.proofs.Lemmas.Found.{found_shift}
 use Rattle.diagnosis.specs.declared.block.Kind.{Kind}
 use Rattle.diagnosis.specs.declared.block.Kind.TheVariants.{Device, Module}
 use Rattle.diagnosis.specs.declared.block.Kind.TheVariants as kind
-use Rattle.diagnosis.specs.declared.block.Found.TheVariants.{Is}
 use Rattle.diagnosis.specs.declared.walk.Channel.{Channel}
 
 -- ---- which fields may be written
@@ -73,7 +72,7 @@ found_behind a s =
 
 module _ (s rest : List ℕ) (g : Sizes s) where
   -- a block with its length in its header
-  sized : (k : Kind) → sized_of k (head_of k (length s + 1)) (length (sized_bytes k s ++ rest) - 0) ≡ Is (extent k (length s + 1))
+  sized : (k : Kind) → sized_of k (head_of k (length s + 1)) (length (sized_bytes k s ++ rest) - 0) ≡ Ok (extent k (length s + 1))
   unfolding sized_of
   sized k =
       let n : head_of k (length s + 1) % 64 ≡ length s + 1 = omega arith in
@@ -81,13 +80,13 @@ module _ (s rest : List ℕ) (g : Sizes s) where
       let whole : length s + 1 ≤ length (sized_bytes k s ++ rest) - 0 = omega (arith, length-append s rest) in
       simp (n, le-ltb _ _ low, le-ltb _ _ whole)
 
-  pub found_device : found_at (device_bytes s ++ rest) 0 ≡ Is (extent Device (length s + 1))
+  pub found_device : found_at (device_bytes s ++ rest) 0 ≡ Ok (extent Device (length s + 1))
   unfolding found_by
   found_device =
       let head : head_of Device (length s + 1) / 64 ≡ kind_number Device = omega arith in
       simp head (sized Device)
 
-  pub found_module : found_at (module_bytes s ++ rest) 0 ≡ Is (extent Module (length s + 1))
+  pub found_module : found_at (module_bytes s ++ rest) 0 ≡ Ok (extent Module (length s + 1))
   unfolding found_by
   found_module =
       let head : head_of Module (length s + 1) / 64 ≡ kind_number Module = omega arith in
@@ -110,7 +109,7 @@ module _ (c : Channel) (f : Fields c) where
       let n : (c.direction * 64 + c.channel) % 64 ≡ c.channel = omega arith in
       rw (m, direction_back, n, kind_back, error_back)
 
-  pub found_channel : (rest : List ℕ) → found_at (channel_bytes c ++ rest) 0 ≡ Is (extent kind.Channel 3)
+  pub found_channel : (rest : List ℕ) → found_at (channel_bytes c ++ rest) 0 ≡ Ok (extent kind.Channel 3)
   unfolding found_by channel_of
   found_channel rest =
       let head : head_of kind.Channel c.«module» / 64 ≡ kind_number kind.Channel = omega arith in

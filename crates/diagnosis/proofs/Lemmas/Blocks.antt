@@ -1,16 +1,13 @@
 -- One block more of the blocks that follow a header.
-use Rattle.std.specs.Prelude.{◌≡◌, refl, ℕ, zero, suc, ◌+◌, ◌-◌, ◌<◌, length, get_or, drop}
+use Rattle.std.specs.Prelude.{◌≡◌, refl, ℕ, zero, suc, ◌+◌, ◌-◌, ◌<◌, length, get_or, drop, Ok, Err}
 use Rattle.std.proofs.Common.{sym, ◌∙◌, arith, drop-cons, drop-drop}
 use Rattle.std.proofs.Math.Path.{ap}
 use mathlib.Core.List.{List, [], ◌∷◌}
 use Rattle.std.proofs.Math.Seq.{drop-length}
-use Rattle.octets.specs.declared.Refusal.{Refusal}
-use Rattle.diagnosis.specs.Block.{found_at}
+use Rattle.diagnosis.specs.Block.{found_at, Found}
 use Rattle.diagnosis.specs.Reading.{end, bad, more, onward, blocks_in}
 use Rattle.diagnosis.proofs.Lemmas.Found.{within_at, found_shift}
 use Rattle.diagnosis.specs.declared.block.Extent.{Extent}
-use Rattle.diagnosis.specs.declared.block.Found.{Found}
-use Rattle.diagnosis.specs.declared.block.Found.TheVariants.{Is, Refused}
 
 -- bytes that still belong to a block are passed over
 skipped : (s : List ℕ) (k : ℕ) → blocks_in s k ≡ blocks_in (drop k s) 0
@@ -30,7 +27,7 @@ module _ (s : List ℕ) (at : ℕ) (h : at < length s) where
       ∙ ap (λ (f : Found). onward f (λ k. blocks_in (drop (suc at) s) k)) here
 
   -- a block and then those behind it, or its refusal
-  pub blocks_more : {e : Extent} → found_at s at ≡ Is e → blocks_in (drop at s) 0 ≡ more e (blocks_in (drop (at + e.len) s) 0)
+  pub blocks_more : {e : Extent} → found_at s at ≡ Ok e → blocks_in (drop at s) 0 ≡ more e (blocks_in (drop (at + e.len) s) 0)
   blocks_more {e} p =
       let w = within_at s at p in
       let z : suc at + (e.len - 1) ≡ at + e.len = omega arith in
@@ -39,7 +36,7 @@ module _ (s : List ℕ) (at : ℕ) (h : at < length s) where
       ∙ ap (more e)
       (skipped (drop (suc at) s) (e.len - 1) ∙ ap (λ (l : List ℕ). blocks_in l 0) (drop-drop (e.len - 1) (suc at) s ∙ ap (λ (i : ℕ). drop i s) z))
 
-  pub blocks_bad : {r : Refusal} → found_at s at ≡ Refused r → blocks_in (drop at s) 0 ≡ bad r
+  pub blocks_bad : {r : ℕ} → found_at s at ≡ Err r → blocks_in (drop at s) 0 ≡ bad r
   blocks_bad p = opened ∙ ap (λ (f : Found). onward f (λ k. blocks_in (drop (suc at) s) k)) p
 
 pub blocks_end : (s : List ℕ) (at : ℕ) → at ≡ length s → blocks_in (drop at s) 0 ≡ end

@@ -1,5 +1,5 @@
 -- Between the plain conditions on the bytes of a diagnosis and the tests of its definition.
-use Rattle.std.specs.Prelude.{◌≡◌, List, leb}
+use Rattle.std.specs.Prelude.{◌≡◌, List, leb, Ok, Err}
 use Rattle.std.proofs.Common.{subst}
 use Rattle.std.proofs.Math.Bool.{true}
 use Prim.Native.Nat.{ℕ, suc, ◌+◌, ◌-◌, ◌/◌, ◌%◌, ◌≤◌, ◌<◌}
@@ -10,7 +10,7 @@ use borrow.Author.Tests.{eqb-true, eqb-false, ne_eqb, leb-true, le-leb, lt-leb, 
 use Rattle.octets.specs.Choice.{◌and◌, ◌or◌}
 use Rattle.octets.proofs.Choice.{by_pick, by_or, and_left, and_right}
 use Rattle.diagnosis.specs.Block.{extent, good_code, sized_of, channel_of, found_by, found_at}
-use Rattle.diagnosis.specs.Reading.{good_status1, good_status2, good_status3, good_master, ext_diag_agrees}
+use Rattle.diagnosis.specs.Reading.{good_status1, good_status2, good_status3, good_master, ext_diag_agrees, Count}
 use Rattle.diagnosis.specs.Contents.{Walks, end, bad, more}
 use Rattle.diagnosis.specs.Bytes.{MasterByte, station, no_station, HeaderBytes, CodeByte, low_error, high_error, BlockBytes, last, device, modules, channel, ExtDiag, without, with_blocks}
 use Rattle.diagnosis.proofs.Lemmas.Found as kind
@@ -19,10 +19,7 @@ use Rattle.diagnosis.proofs.Lemmas.Steps as step_case
 use Rattle.diagnosis.proofs.Lemmas.Steps.{Inner, Steps, steps, inner_step, last_step}
 use Rattle.diagnosis.specs.declared.block.Kind.TheVariants as the-kind
 use Rattle.diagnosis.specs.declared.block.Extent.{Extent}
-use Rattle.diagnosis.specs.declared.block.Found.TheVariants.{Is}
-use Rattle.diagnosis.specs.declared.reading.Count.{Count}
-use Rattle.diagnosis.specs.declared.reading.Count.TheVariants as count
-use Rattle.diagnosis.specs.declared.walk.Step.{Step}
+use Rattle.diagnosis.specs.Walk.{Step}
 use Rattle.diagnosis.specs.declared.walk.Step.TheVariants as step
 
 -- ---- the header
@@ -111,17 +108,17 @@ pub record Rest (s : List ℕ) (at k m : ℕ) : Type 0 where
   pub blocks : BlockBytes s at left
 
 abbrev pub RestIn : (s : List ℕ) (at k : ℕ) → Count → Type 0
-RestIn s at k (count.Blocks m) = Rest s at k m
-RestIn s at k (count.Refused r) = Unit
+RestIn s at k (Ok m) = Rest s at k m
+RestIn s at k (Err r) = Unit
 
 module _ (s : List ℕ) (at : ℕ) where
   -- what a step says of the bytes at its place, if what follows it is known
   abbrev Says : Step → Type 0
-  Says (step.Block b p) = (k m : ℕ) → Rest s p.at (k + 1) m → Rest s at k m
-  Says step.End = at ≡ length s
-  Says (step.Refused r) = Unit
+  Says (Ok (step.Block b p)) = (k m : ℕ) → Rest s p.at (k + 1) m → Rest s at k m
+  Says (Ok step.End) = at ≡ length s
+  Says (Err r) = Unit
 
-  one_more : {e : Extent} → Inner s at → FindsAt s at (Is e) → (k m : ℕ) → Rest s (at + e.len) (k + 1) m → Rest s at k m
+  one_more : {e : Extent} → Inner s at → FindsAt s at (Ok e) → (k m : ℕ) → Rest s (at + e.len) (k + 1) m → Rest s at k m
   one_more i (kind.device z g) k m r =
       record { left = suc r.left; sum = omega (arith, r.sum); blocks = device z g.low (omega (arith, g.whole, i.high)) r.blocks }
   one_more i (kind.modules z g) k m r =
@@ -137,8 +134,8 @@ module _ (s : List ℕ) (at : ℕ) where
   says (step_case.outside f) = tt
 
   further : (k next : ℕ) → ((m : ℕ) → Rest s next (k + 1) m → Rest s at k m) → (c : Count) → RestIn s next (k + 1) c → RestIn s at k c
-  further k next f (count.Blocks m) r = f m r
-  further k next f (count.Refused e) r = tt
+  further k next f (Ok m) r = f m r
+  further k next f (Err e) r = tt
 
 pub walk_blocks : {s : List ℕ} {at k : ℕ} {c : Count} → Walks s at k c → RestIn s at k c
 walk_blocks {s} {at} {k} (end e) = record { left = 0; sum = omega arith; blocks = last (subst (Says s at) e (says s at (steps s at))) }
@@ -148,19 +145,19 @@ walk_blocks {s} {at} {k} {c} (more {p = p} e w) = further s at k p.at (subst (Sa
 -- ---- from the blocks to the walk
 
 module _ (s : List ℕ) (at : ℕ) where
-  device_found : get_or s at 0 / 64 ≡ 0 → 2 ≤ get_or s at 0 % 64 → at + get_or s at 0 % 64 ≤ length s → found_at s at ≡ Is (extent the-kind.Device (get_or s at 0 % 64))
+  device_found : get_or s at 0 / 64 ≡ 0 → 2 ≤ get_or s at 0 % 64 → at + get_or s at 0 % 64 ≤ length s → found_at s at ≡ Ok (extent the-kind.Device (get_or s at 0 % 64))
   unfolding found_by sized_of
   device_found z l w =
       let fits : get_or s at 0 % 64 ≤ length s - at = omega arith in
       simp (z, le-ltb _ _ l, le-ltb _ _ fits)
 
-  modules_found : get_or s at 0 / 64 ≡ 1 → 2 ≤ get_or s at 0 % 64 → at + get_or s at 0 % 64 ≤ length s → found_at s at ≡ Is (extent the-kind.Module (get_or s at 0 % 64))
+  modules_found : get_or s at 0 / 64 ≡ 1 → 2 ≤ get_or s at 0 % 64 → at + get_or s at 0 % 64 ≤ length s → found_at s at ≡ Ok (extent the-kind.Module (get_or s at 0 % 64))
   unfolding found_by sized_of
   modules_found z l w =
       let fits : get_or s at 0 % 64 ≤ length s - at = omega arith in
       simp (z, le-ltb _ _ l, le-ltb _ _ fits)
 
-  channel_found : get_or s at 0 / 64 ≡ 2 → at + 3 ≤ length s → 1 ≤ get_or s (at + 1) 0 / 64 → CodeByte (get_or s (at + 2) 0) → found_at s at ≡ Is (extent the-kind.Channel 3)
+  channel_found : get_or s at 0 / 64 ≡ 2 → at + 3 ≤ length s → 1 ≤ get_or s (at + 1) 0 / 64 → CodeByte (get_or s (at + 2) 0) → found_at s at ≡ Ok (extent the-kind.Channel 3)
   unfolding found_by channel_of
   channel_found z w d c =
       let fits : 3 ≤ length s - at = omega arith in
@@ -168,16 +165,16 @@ module _ (s : List ℕ) (at : ℕ) where
       simp (z, le-ltb _ _ fits, ne_eqb _ _ some, code_good c)
 
 -- one block found, and the walk behind it
-walked : (s : List ℕ) (at k n : ℕ) (e : Extent) → 6 ≤ at → at < length s → found_at s at ≡ Is e
-    → Walks s (at + e.len) (k + 1) (count.Blocks (k + 1 + n)) → Walks s at k (count.Blocks (k + suc n))
+walked : (s : List ℕ) (at k n : ℕ) (e : Extent) → 6 ≤ at → at < length s → found_at s at ≡ Ok e
+    → Walks s (at + e.len) (k + 1) (Ok (k + 1 + n)) → Walks s at k (Ok (k + suc n))
 walked s at k n e l h f w =
     let m : k + 1 + n ≡ k + suc n = omega arith in
-    more (inner_step s at (record { low = l; high = h }) f) (subst (λ (i : ℕ). Walks s (at + e.len) (k + 1) (count.Blocks i)) m w)
+    more (inner_step s at (record { low = l; high = h }) f) (subst (λ (i : ℕ). Walks s (at + e.len) (k + 1) (Ok i)) m w)
 
-pub blocks_walk : {s : List ℕ} {at n : ℕ} → BlockBytes s at n → (k : ℕ) → 6 ≤ at → Walks s at k (count.Blocks (k + n))
+pub blocks_walk : {s : List ℕ} {at n : ℕ} → BlockBytes s at n → (k : ℕ) → 6 ≤ at → Walks s at k (Ok (k + n))
 blocks_walk {s} {at} (last e) k l =
     let z : k ≡ k + 0 = omega arith in
-    subst (λ (i : ℕ). Walks s at k (count.Blocks i)) z (end (last_step s at l e))
+    subst (λ (i : ℕ). Walks s at k (Ok i)) z (end (last_step s at l e))
 blocks_walk {s} {at} (device {n = n} z low w b) k l =
     walked s at k n _ l (omega arith) (device_found s at z low w) (blocks_walk b (k + 1) (omega arith))
 blocks_walk {s} {at} (modules {n = n} z low w b) k l =

@@ -1,15 +1,12 @@
 -- What is known of a block that was found: one case for each kind.
-use Rattle.std.specs.Prelude.{◌≡◌, refl, true, not, List, ℕ, ◌+◌, ◌-◌, ◌/◌, ◌%◌, ◌≤◌, length, get_or, drop, eqb, ltb}
+use Rattle.std.specs.Prelude.{◌≡◌, refl, true, not, List, ℕ, ◌+◌, ◌-◌, ◌/◌, ◌%◌, ◌≤◌, length, get_or, drop, eqb, ltb, Ok, Err}
 use Rattle.std.proofs.Common.{ap, ◌∙◌, subst, arith, length-drop, get_or-drop}
 use borrow.Author.Tests.{ltb-false, eqb-true, eqb-false, not-false}
 use Rattle.octets.proofs.Choice.{by_pick}
-use Rattle.octets.specs.declared.Refusal.{Refusal}
-use Rattle.diagnosis.specs.Block.{kind_number, extent, good_code, sized_of, channel_of, found_by, found_at}
+use Rattle.diagnosis.specs.Block.{kind_number, extent, good_code, sized_of, channel_of, found_by, found_at, Found}
 use Rattle.diagnosis.specs.declared.block.Kind.{Kind}
 use Rattle.diagnosis.specs.declared.block.Kind.TheVariants.{Device, Module, Channel}
 use Rattle.diagnosis.specs.declared.block.Extent.{Extent}
-use Rattle.diagnosis.specs.declared.block.Found.{Found}
-use Rattle.diagnosis.specs.declared.block.Found.TheVariants.{Is, Refused}
 
 -- a length that the header has
 pub record Sized (head left : ℕ) : Type 0 where
@@ -23,16 +20,16 @@ pub record Coded (second third left : ℕ) : Type 0 where
   pub codes : good_code (third / 32) (third % 32) ≡ true
 
 pub data Finds (head second third left : ℕ) : Found → Type 0 where
-  device : head / 64 ≡ kind_number Device → Sized head left → Finds head second third left (Is (extent Device (head % 64)))
-  modules : head / 64 ≡ kind_number Module → Sized head left → Finds head second third left (Is (extent Module (head % 64)))
-  channel : head / 64 ≡ kind_number Channel → Coded second third left → Finds head second third left (Is (extent Channel 3))
-  refusal : {r : Refusal} → Finds head second third left (Refused r)
+  device : head / 64 ≡ kind_number Device → Sized head left → Finds head second third left (Ok (extent Device (head % 64)))
+  modules : head / 64 ≡ kind_number Module → Sized head left → Finds head second third left (Ok (extent Module (head % 64)))
+  channel : head / 64 ≡ kind_number Channel → Coded second third left → Finds head second third left (Ok (extent Channel 3))
+  refusal : {r : ℕ} → Finds head second third left (Err r)
 
 module _ (head second third left : ℕ) where
   F : Found → Type 0
   F = Finds head second third left
 
-  by_size : (kind : Kind) → (Sized head left → F (Is (extent kind (head % 64)))) → F (sized_of kind head left)
+  by_size : (kind : Kind) → (Sized head left → F (Ok (extent kind (head % 64)))) → F (sized_of kind head left)
   unfolding F sized_of
   by_size kind f =
       by_pick F (ltb (head % 64) 2) (λ _. refusal)
@@ -60,19 +57,19 @@ pub record Within (left len : ℕ) : Type 0 where
   pub high : len ≤ 63
   pub whole : len ≤ left
 
-pub within : {head second third left : ℕ} {e : Extent} → Finds head second third left (Is e) → Within left e.len
+pub within : {head second third left : ℕ} {e : Extent} → Finds head second third left (Ok e) → Within left e.len
 within (device _ s) = record { low = s.low; high = omega arith; whole = s.whole }
 within (modules _ s) = record { low = s.low; high = omega arith; whole = s.whole }
 within (channel _ k) = record { low = omega arith; high = omega arith; whole = k.whole }
 
 -- and a channel block has three
-three : {head second third left : ℕ} {e : Extent} → Finds head second third left (Is e) → e.kind ≡ Channel → e.len ≡ 3
+three : {head second third left : ℕ} {e : Extent} → Finds head second third left (Ok e) → e.kind ≡ Channel → e.len ≡ 3
 three (device _ s) k = cc
 three (modules _ s) k = cc
 three (channel _ _) k = refl
 
 -- its kind is its header's
-pub kind_of_lem : {head second third left : ℕ} {e : Extent} → Finds head second third left (Is e) → head / 64 ≡ kind_number e.kind
+pub kind_of_lem : {head second third left : ℕ} {e : Extent} → Finds head second third left (Ok e) → head / 64 ≡ kind_number e.kind
 kind_of_lem (device z _) = z
 kind_of_lem (modules z _) = z
 kind_of_lem (channel z _) = z
@@ -84,10 +81,10 @@ FindsAt s at = Finds (get_or s at 0) (get_or s (at + 1) 0) (get_or s (at + 2) 0)
 pub found_at_lem : (s : List ℕ) (at : ℕ) {f : Found} → found_at s at ≡ f → FindsAt s at f
 found_at_lem s at e = subst (FindsAt s at) e (finds _ _ _ _)
 
-pub within_at : (s : List ℕ) (at : ℕ) {e : Extent} → found_at s at ≡ Is e → Within (length s - at) e.len
+pub within_at : (s : List ℕ) (at : ℕ) {e : Extent} → found_at s at ≡ Ok e → Within (length s - at) e.len
 within_at s at e = within (found_at_lem s at e)
 
-pub three_at : (s : List ℕ) (at : ℕ) {e : Extent} → found_at s at ≡ Is e → e.kind ≡ Channel → e.len ≡ 3
+pub three_at : (s : List ℕ) (at : ℕ) {e : Extent} → found_at s at ≡ Ok e → e.kind ≡ Channel → e.len ≡ 3
 three_at s at e = three (found_at_lem s at e)
 
 -- the same block, seen from another start

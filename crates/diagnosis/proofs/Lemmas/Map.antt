@@ -1,20 +1,18 @@
 -- The map of a module block: the search for the lowest module that reports, and the count byte by byte.
-use Rattle.std.specs.Prelude.{◌≡◌, refl, Bool, true, false, List, ◌∷◌, length, get_or, eqb}
+use Rattle.std.specs.Prelude.{◌≡◌, refl, Bool, true, false, List, ◌∷◌, length, get_or, eqb, Some, None}
 use Rattle.std.proofs.Common.{ap, ap₂, ◌∙◌, subst, arith, lt_of_not-le, div-one}
 use Prim.Native.Nat.{ℕ, zero, suc, ◌+◌, ◌*◌, ◌/◌, ◌%◌, ◌^◌, ◌≤◌, ◌<◌}
 use Rattle.std.proofs.Math.Decide.{dec_le}
 use Rattle.octets.specs.Choice.{pick}
 use Rattle.octets.proofs.Choice.{by_pick}
-use Rattle.diagnosis.specs.Map.{reports, count_from, lowest_from, set_of}
-use Rattle.diagnosis.specs.declared.map.Lowest.{Lowest}
-use Rattle.diagnosis.specs.declared.map.Lowest.TheVariants.{Module, Nothing}
+use Rattle.diagnosis.specs.Map.{reports, count_from, lowest_from, set_of, Lowest}
 
 -- ---- the search
 
 -- what the search among the n numbers from k on says
 pub data Finds (test : ℕ → Bool) (k n : ℕ) : Lowest → Type 0 where
-  found : {m : ℕ} → test m ≡ true → ((j : ℕ) → k ≤ j → j < m → test j ≡ false) → Finds test k n (Module m)
-  none : ((j : ℕ) → k ≤ j → j < k + n → test j ≡ false) → Finds test k n Nothing
+  found : {m : ℕ} → test m ≡ true → ((j : ℕ) → k ≤ j → j < m → test j ≡ false) → Finds test k n (Some m)
+  none : ((j : ℕ) → k ≤ j → j < k + n → test j ≡ false) → Finds test k n None
 
 -- from k on, where it holds of k and from the next on
 from_next : (P : ℕ → Type 0) (k : ℕ) → P k → ((j : ℕ) → suc k ≤ j → P j) → (j : ℕ) → k ≤ j → P j

@@ -1,22 +1,18 @@
 -- What a reading says of the bytes, and that their header is written as it was read.
-use Rattle.std.specs.Prelude.{◌≡◌, List, [], ◌∷◌, ℕ, zero, suc, ◌≤◌, ◌<◌, length, get_or, take, drop, ltb}
+use Rattle.std.specs.Prelude.{◌≡◌, List, [], ◌∷◌, ℕ, zero, suc, ◌≤◌, ◌<◌, length, get_or, take, drop, ltb, Ok, Err}
 use Rattle.std.proofs.Common.{sym, ap, ◌∙◌, arith, ltb-false}
 use Rattle.octets.proofs.Choice.{by_pick}
 use Rattle.octets.specs.Bytes.{Bytes}
 use Rattle.octets.proofs.Number.{bytes_number}
 use Rattle.octets.proofs.Elements.{part_elements}
-use Rattle.octets.specs.declared.Refusal.{Refusal}
-use Rattle.diagnosis.specs.Reading.{header_of, answered, read_of}
+use Rattle.diagnosis.specs.Reading.{header_of, answered, read_of, Count, Reading}
 use Rattle.diagnosis.specs.Writing.{header_bytes}
 use Rattle.diagnosis.proofs.Lemmas.Judged.{Good, Judges, good, refusal, judges}
-use Rattle.diagnosis.specs.declared.reading.Count.{Count}
-use Rattle.diagnosis.specs.declared.reading.Reading.{Reading}
-use Rattle.diagnosis.specs.declared.reading.Reading.TheVariants.{Diagnosis, Refused}
 
 -- what a reading says of the bytes
 pub data Reads (s : List ℕ) : Reading → Type 0 where
-  read : {n : ℕ} → 6 ≤ length s → Good (header_of s) (drop 6 s) n → Reads s (Diagnosis (header_of s) n)
-  unread : {r : Refusal} → Reads s (Refused r)
+  read : {n : ℕ} → 6 ≤ length s → Good (header_of s) (drop 6 s) n → Reads s (Ok (record { header = header_of s; blocks = n }))
+  unread : {r : ℕ} → Reads s (Err r)
 
 by_judges : (s : List ℕ) → 6 ≤ length s → {c : Count} → Judges (header_of s) (drop 6 s) c → Reads s (answered (header_of s) c)
 by_judges s l (good g) = read l g

@@ -1,24 +1,19 @@
 -- What one step of the walk says, from the step and back to it, and that step after step it comes to what reading counts.
-use Rattle.std.specs.Prelude.{◌≡◌, refl, List, ℕ, zero, suc, ◌+◌, ◌-◌, ◌≤◌, ◌<◌, drop, eqb, ltb}
+use Rattle.std.specs.Prelude.{◌≡◌, refl, List, ℕ, zero, suc, ◌+◌, ◌-◌, ◌≤◌, ◌<◌, drop, eqb, ltb, Ok, Err}
 use Rattle.std.proofs.Common.{ap, subst, lt_of_not-le}
 use native.Mathlib.Omega.{arith}
 use Rattle.std.proofs.Math.Decide.{dec_le}
 use Rattle.std.proofs.Math.ListN.{length}
 use borrow.Author.Tests.{le-ltb, ltb-true, ltb-false, eqb-true, eqb-false, eq-eqb, ne_eqb}
 use Rattle.octets.proofs.Choice.{by_pick}
-use Rattle.octets.specs.declared.Refusal.{Refusal}
-use Rattle.diagnosis.specs.Block.{found_at}
-use Rattle.diagnosis.specs.Walk.{position, block_of, step_of, next_of}
-use Rattle.diagnosis.specs.Reading.{blocks_in, counted}
+use Rattle.diagnosis.specs.Block.{found_at, Found}
+use Rattle.diagnosis.specs.Walk.{position, block_of, step_of, next_of, Step}
+use Rattle.diagnosis.specs.Reading.{blocks_in, counted, Count}
 use Rattle.diagnosis.specs.Contents.{Walks, end, bad, more}
 use Rattle.diagnosis.proofs.Lemmas.Found.{within_at}
 use Rattle.diagnosis.proofs.Lemmas.Blocks.{blocks_more, blocks_bad, blocks_end}
 use Rattle.diagnosis.specs.declared.block.Extent.{Extent}
-use Rattle.diagnosis.specs.declared.block.Found.{Found}
-use Rattle.diagnosis.specs.declared.block.Found.TheVariants as found
-use Rattle.diagnosis.specs.declared.reading.Count.{Count}
 use Rattle.diagnosis.specs.declared.walk.Position.{Position}
-use Rattle.diagnosis.specs.declared.walk.Step.{Step}
 use Rattle.diagnosis.specs.declared.walk.Step.TheVariants as step
 
 -- a place behind the header, before the end
@@ -27,15 +22,15 @@ pub record Inner (s : List ℕ) (at : ℕ) : Type 0 where
   pub high : at < length s
 
 pub data Steps (s : List ℕ) (at : ℕ) : Step → Type 0 where
-  block : {e : Extent} → Inner s at → found_at s at ≡ found.Is e → Steps s at (step.Block (block_of s at e) (position (at + e.len)))
-  fault : {r : Refusal} → Inner s at → found_at s at ≡ found.Refused r → Steps s at (step.Refused r)
-  last : at ≡ length s → Steps s at step.End
-  outside : {r : Refusal} → (6 ≤ at → at ≤ length s → ⊥) → Steps s at (step.Refused r)
+  block : {e : Extent} → Inner s at → found_at s at ≡ Ok e → Steps s at (Ok (step.Block (block_of s at e) (position (at + e.len))))
+  fault : {r : ℕ} → Inner s at → found_at s at ≡ Err r → Steps s at (Err r)
+  last : at ≡ length s → Steps s at (Ok step.End)
+  outside : {r : ℕ} → (6 ≤ at → at ≤ length s → ⊥) → Steps s at (Err r)
 
 module _ (s : List ℕ) (at : ℕ) where
   by_found : Inner s at → (f : Found) → found_at s at ≡ f → Steps s at (step_of s at f)
-  by_found i (found.Is e) p = block i p
-  by_found i (found.Refused r) p = fault i p
+  by_found i (Ok e) p = block i p
+  by_found i (Err r) p = fault i p
 
   pub steps : Steps s at (next_of s at)
   unfolding next_of
@@ -56,7 +51,7 @@ module _ (s : List ℕ) (at : ℕ) where
       let reached : at ≤ length s = omega arith in
       simp (le-ltb _ _ i.low, le-ltb _ _ reached, ne_eqb _ _ some) (ap (step_of s at) p)
 
-  pub last_step : 6 ≤ at → at ≡ length s → next_of s at ≡ step.End
+  pub last_step : 6 ≤ at → at ≡ length s → next_of s at ≡ Ok step.End
   unfolding next_of
   last_step l e =
       let none : length s - at ≡ 0 = omega arith in
@@ -69,10 +64,10 @@ module _ (s : List ℕ) (at : ℕ) where
 by_step : (f : ℕ) (s : List ℕ) (at n : ℕ) → Inner s at → length s - at ≤ suc f
     → ((at n : ℕ) → 6 ≤ at → at ≤ length s → length s - at ≤ f → Walks s at n (counted n (blocks_in (drop at s) 0)))
     → (x : Found) → found_at s at ≡ x → Walks s at n (counted n (blocks_in (drop at s) 0))
-by_step f s at n i l rest (found.Is e) p =
+by_step f s at n i l rest (Ok e) p =
     let w = within_at s at p in
     rw (blocks_more s at i.high p) (more (inner_step s at i p) (rest (at + e.len) (n + 1) (omega arith) (omega arith) (omega arith)))
-by_step f s at n i l rest (found.Refused r) p = rw (blocks_bad s at i.high p) (bad (inner_step s at i p))
+by_step f s at n i l rest (Err r) p = rw (blocks_bad s at i.high p) (bad (inner_step s at i p))
 
 ended : (s : List ℕ) (at n : ℕ) → 6 ≤ at → at ≡ length s → Walks s at n (counted n (blocks_in (drop at s) 0))
 ended s at n l e = rw (blocks_end s at e) (end (last_step s at l e))

@@ -1,5 +1,5 @@
 -- A block that was written, where it stands: found by the walk, and counted.
-use Rattle.std.specs.Prelude.{◌≡◌, refl, List, ◌∷◌, ◌++◌, ℕ, suc, ◌+◌, ◌-◌, ◌*◌, ◌≤◌, ◌<◌, get_or, take, drop}
+use Rattle.std.specs.Prelude.{◌≡◌, refl, List, ◌∷◌, ◌++◌, ℕ, suc, ◌+◌, ◌-◌, ◌*◌, ◌≤◌, ◌<◌, get_or, take, drop, Ok}
 use Rattle.std.proofs.Common.{sym, ap, ap₂, ◌∙◌, arith, add-zero, add-one, drop_at, get_or-append-add, le-leb}
 use Rattle.std.proofs.Math.ListN.{length, length-append}
 use Rattle.std.proofs.Math.Seq.{take-append_seam, drop-append-add}
@@ -16,8 +16,6 @@ use Rattle.diagnosis.proofs.Lemmas.Steps.{inner_step}
 use Rattle.diagnosis.proofs.Lemmas.Back.{sizes, fields, found_behind, found_device, found_module, found_channel, fields_back}
 use Rattle.diagnosis.specs.declared.block.Kind.TheVariants.{Device, Module, Channel}
 use Rattle.diagnosis.specs.declared.block.Extent.{Extent}
-use Rattle.diagnosis.specs.declared.block.Found.TheVariants.{Is}
-use Rattle.diagnosis.specs.declared.reading.Count.TheVariants as count
 use Rattle.diagnosis.specs.declared.walk.Block as TheBlock
 use Rattle.diagnosis.specs.declared.walk.Block.TheVariants as block
 use Rattle.diagnosis.specs.declared.walk.Step.TheVariants as step
@@ -29,7 +27,7 @@ extent_for (modules s) = extent Module (length s + 1)
 extent_for (channel c) = extent Channel 3
 
 record Front (x : Item) (rest : List ℕ) : Type 0 where
-  pub found : found_at (item_bytes x ++ rest) 0 ≡ Is (extent_for x)
+  pub found : found_at (item_bytes x ++ rest) 0 ≡ Ok (extent_for x)
   pub len : (extent_for x).len ≡ length (item_bytes x)
   pub some : 1 ≤ length (item_bytes x)
 
@@ -80,18 +78,18 @@ module _ (before after : List ℕ) where
   -- so the walk steps over it
   pub stepped : 6 ≤ length before → (x : Item) → item_verdict x ≡ fine
       → next_of (before ++ (item_bytes x ++ after)) (length before)
-      ≡ step.Block (block_for (length before) x) (position (length before + length (item_bytes x)))
+      ≡ Ok (step.Block (block_for (length before) x) (position (length before + length (item_bytes x))))
   stepped l x v =
       let f = front x after v in
       let high : length before < length (whole x) =
       rw (length-append before (item_bytes x ++ after), length-append (item_bytes x) after) (omega (arith, f.some)) in
       inner_step (whole x) (length before) (record { low = l; high = high }) (found_behind before (item_bytes x ++ after) ∙ f.found)
-      ∙ ap₂ (λ (b : TheBlock.Block) (n : ℕ). step.Block b (position (length before + n))) (says x v) f.len
+      ∙ ap₂ (λ (b : TheBlock.Block) (n : ℕ). Ok (step.Block b (position (length before + n)))) (says x v) f.len
 
 -- and so it is counted, with those behind it
-pub after_blocks : (n : ℕ) {xs : List Item} → Writable xs → counted n (blocks_in (joined xs) 0) ≡ count.Blocks (n + length xs)
+pub after_blocks : (n : ℕ) {xs : List Item} → Writable xs → counted n (blocks_in (joined xs) 0) ≡ Ok (n + length xs)
 unfolding blocks_in
-after_blocks n none = ap count.Blocks (sym (add-zero n))
+after_blocks n none = ap Ok (sym (add-zero n))
 after_blocks n (one_more {x} {xs} v w) =
     let f = front x (joined xs) v in
     let long : 0 < length (item_bytes x ++ joined xs) = omega (arith, f.some, length-append (item_bytes x) (joined xs)) in
@@ -100,4 +98,4 @@ after_blocks n (one_more {x} {xs} v w) =
     ap (counted n) (blocks_more (item_bytes x ++ joined xs) 0 long f.found)
     ∙ ap (λ (l : List ℕ). counted (n + 1) (blocks_in l 0)) (drop_at (item_bytes x) (joined xs) (0 + (extent_for x).len) all)
     ∙ after_blocks (n + 1) w
-    ∙ ap count.Blocks sum
+    ∙ ap Ok sum

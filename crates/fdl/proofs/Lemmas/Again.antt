@@ -20,7 +20,7 @@ use Rattle.fdl.proofs.Lemmas.Fields.{core_length}
 use Rattle.function_code.specs.declared.code.Class.{Class}
 use Rattle.fdl.specs.declared.telegram.Format.{Format}
 use Rattle.fdl.specs.declared.telegram.Header.{Header}
-use Rattle.fdl.specs.declared.telegram.Sap.{Sap}
+use Rattle.fdl.specs.Sap.{Sap}
 
 -- ---- an access point that was found
 

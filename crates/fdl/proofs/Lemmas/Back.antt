@@ -1,5 +1,5 @@
 -- What is written reads back.
-use Rattle.std.specs.Prelude.{◌≡◌, refl, true, ℕ, ◌+◌, ◌-◌, ◌*◌, ◌%◌, ◌≤◌, drop, leb}
+use Rattle.std.specs.Prelude.{◌≡◌, refl, true, ℕ, ◌+◌, ◌-◌, ◌*◌, ◌%◌, ◌≤◌, drop, leb, Ok, Some, None}
 use Rattle.std.proofs.Common.{sym, ◌∙◌, subst, add-zero, add_assoc, length-append, get_or-append-add, take_at, drop_at, leb-true, le-leb, le-ltb}
 use Rattle.std.proofs.Math.Path.{ap, ap₂}
 use mathlib.Core.List.{List, ◌∷◌, ◌++◌, append_assoc}
@@ -20,22 +20,21 @@ use Rattle.fdl.proofs.Lemmas.Fields.{Writable, fine_true, sap_small, sap_bytes_l
 use Rattle.function_code.specs.declared.code.Class.{Class}
 use Rattle.fdl.specs.declared.telegram.Format.{Format}
 use Rattle.fdl.specs.declared.telegram.Header.{Header}
-use Rattle.fdl.specs.declared.telegram.Sap.{Sap}
-use Rattle.fdl.specs.declared.telegram.Sap.TheVariants.{Absent, Present}
+use Rattle.fdl.specs.Sap.{Sap}
 use Rattle.fdl.specs.declared.reading.Reading.TheVariants.{Confirmation, Token, Telegram}
 
 -- an access point is found as it was written
 sap_back : (sap : Sap) (rest t : List ℕ) (low address start len : ℕ) → good_sap sap ≡ true → low ≤ 127 → address ≡ low + 128 * sap_length sap → sap_length sap ≤ len
     → get_or t start 0 ≡ get_or (sap_bytes sap ++ rest) 0 0 → Extends t address start len sap
-sap_back Absent rest t low address start len g l a r e = none (omega arith)
-sap_back (Present x) rest t low address start len g l a r e =
-    subst (λ (y : ℕ). Extends t address start len (Present y)) e
+sap_back None rest t low address start len g l a r e = none (omega arith)
+sap_back (Some x) rest t low address start len g l a r e =
+    subst (λ (y : ℕ). Extends t address start len (Some y)) e
     (one (omega arith) r (omega (arith, leb-true x 63 g, e)))
 
 -- the byte behind an access point that follows three bytes
 behind_sap : (sap : Sap) (a b c : ℕ) (rest : List ℕ) → get_or (a ∷ b ∷ c ∷ (sap_bytes sap ++ rest)) (3 + sap_length sap) 0 ≡ get_or rest 0 0
-behind_sap Absent a b c rest = refl
-behind_sap (Present x) a b c rest = refl
+behind_sap None a b c rest = refl
+behind_sap (Some x) a b c rest = refl
 
 module _ (classes : ℕ → Class) (f : Format) (h : Header) (user : List ℕ) (ok : Writable classes f h user) where
   abbrev core : List ℕ
@@ -130,13 +129,13 @@ module _ (classes : ℕ → Class) (f : Format) (h : Header) (user : List ℕ) (
       simp (a, b, at_fc)
 
   -- the fields
-  pub fields_back : read_by classes (telegram_of f h user) ≡ Telegram f h (user_start f h) (length user)
+  pub fields_back : read_by classes (telegram_of f h user) ≡ Ok (Telegram f h (user_start f h) (length user))
   unfolding telegram_of
   fields_back =
       let e : pdu - sap_length h.dsap - sap_length h.ssap ≡ length user = omega arith in
       telegram_read classes t starts frames
-      ∙ ap₂ (λ (x : Header) (n : ℕ). Telegram f x (at + 3 + sap_length h.dsap + sap_length h.ssap) n) header_is e
-      ∙ ap (λ (a : ℕ). Telegram f h (a + 3 + sap_length h.dsap + sap_length h.ssap) (length user)) (start_length f (length core))
+      ∙ ap₂ (λ (x : Header) (n : ℕ). (Ok (Telegram f x (at + 3 + sap_length h.dsap + sap_length h.ssap) n))) header_is e
+      ∙ ap (λ (a : ℕ). (Ok (Telegram f h (a + 3 + sap_length h.dsap + sap_length h.ssap) (length user)))) (start_length f (length core))
 
   abbrev front : List ℕ
   front = pre ++ (address_bytes h ++ (sap_bytes h.dsap ++ sap_bytes h.ssap))
@@ -159,7 +158,7 @@ module _ (classes : ℕ → Class) (f : Format) (h : Header) (user : List ℕ) (
       ∙ ap (take (length user)) (drop_at front (user ++ end_bytes core) (user_start f h) front_length)
       ∙ take-append_seam user (end_bytes core))
 
-pub token_back : (classes : ℕ → Class) (da sa : ℕ) → token_verdict da sa ≡ fine → read_by classes (token_bytes da sa) ≡ Token da sa
+pub token_back : (classes : ℕ → Class) (da sa : ℕ) → token_verdict da sa ≡ fine → read_by classes (token_bytes da sa) ≡ Ok (Token da sa)
 unfolding token_verdict read_by token_of
 token_back classes da sa e =
     let both : (leb da 126 and leb sa 126) ≡ true = fine_true (leb da 126 and leb sa 126) 12 e in
@@ -167,6 +166,6 @@ token_back classes da sa e =
     let b : sa ≤ 126 = leb-true sa 126 (and_right (leb da 126) (leb sa 126) both) in
     simp (le-ltb _ _ a, le-ltb _ _ b)
 
-pub confirmation_back : (classes : ℕ → Class) → read_by classes confirmation_bytes ≡ Confirmation
+pub confirmation_back : (classes : ℕ → Class) → read_by classes confirmation_bytes ≡ Ok Confirmation
 unfolding read_by
 confirmation_back classes = refl

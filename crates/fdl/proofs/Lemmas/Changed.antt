@@ -20,8 +20,8 @@ use Rattle.function_code.specs.declared.code.Class.{Class}
 use Rattle.function_code.specs.declared.code.Class.TheVariants.{Reserved}
 use Rattle.fdl.specs.declared.telegram.Format.{Format}
 use Rattle.fdl.specs.declared.telegram.Format.TheVariants.{Sd1, Sd2, Sd3}
-use Rattle.fdl.specs.declared.telegram.Sap.{Sap}
-use Rattle.fdl.specs.declared.reading.Reading.{Reading}
+use Rattle.fdl.specs.Sap.{Sap}
+use Rattle.fdl.specs.Reading.{Reading}
 
 split : {X : Type 0} (a b : ℕ) → (a ≤ b → X) → (b < a → X) → X
 split a b f g = elim (dec_le a b) [ yes h ↦ f h | no h ↦ g (lt_of_not-le h) ]

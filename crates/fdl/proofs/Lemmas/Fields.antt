@@ -1,5 +1,5 @@
 -- What fields that may be written are, and how long their telegram is.
-use Rattle.std.specs.Prelude.{◌≡◌, refl, Bool, true, false, not, List, ℕ, ◌+◌, ◌≤◌, ◌<◌, length, eqb, leb}
+use Rattle.std.specs.Prelude.{◌≡◌, refl, Bool, true, false, not, List, ℕ, ◌+◌, ◌≤◌, ◌<◌, length, eqb, leb, Some, None}
 use Rattle.std.proofs.Common.{arith, leb-true, eqb-true, ne_eqb}
 use Rattle.std.proofs.Math.ListN.{length-append}
 use Rattle.std.proofs.lemmas.Bool.{lt-leb, not-true}
@@ -14,8 +14,7 @@ use Rattle.function_code.specs.declared.code.Class.{Class}
 use Rattle.fdl.specs.declared.telegram.Format.{Format}
 use Rattle.fdl.specs.declared.telegram.Format.TheVariants.{Sd1, Sd2, Sd3}
 use Rattle.fdl.specs.declared.telegram.Header.{Header}
-use Rattle.fdl.specs.declared.telegram.Sap.{Sap}
-use Rattle.fdl.specs.declared.telegram.Sap.TheVariants.{Absent, Present}
+use Rattle.fdl.specs.Sap.{Sap}
 
 -- a header that may be written
 pub record Sound (classes : ℕ → Class) (h : Header) : Type 0 where
@@ -62,12 +61,12 @@ writable classes f h user e =
 -- ---- lengths
 
 pub sap_small : (s : Sap) → sap_length s ≤ 1
-sap_small Absent = omega arith
-sap_small (Present x) = omega arith
+sap_small None = omega arith
+sap_small (Some x) = omega arith
 
 pub sap_bytes_length : (s : Sap) → length (sap_bytes s) ≡ sap_length s
-sap_bytes_length Absent = refl
-sap_bytes_length (Present x) = refl
+sap_bytes_length None = refl
+sap_bytes_length (Some x) = refl
 
 -- the start's length depends on the format alone
 pub start_length : (f : Format) (le : ℕ) → length (start_bytes f le) ≡ length (start_bytes f 0)

@@ -10,11 +10,10 @@ use Rattle.std.proofs.Math.Dec.{ltb}
 use borrow.Author.Tests.{lt-ltb, le-ltb, ne_eqb, ltb-false}
 use Rattle.octets.specs.Choice.{pick}
 use Rattle.fdl.specs.Telegram.{start_byte, token_byte, confirmation_byte}
-use Rattle.fdl.specs.Reading.{refused, most_le, framed_of, sd2_of, token_of, read_by}
+use Rattle.fdl.specs.Reading.{refused, most_le, framed_of, sd2_of, token_of, read_by, Reading}
 use Rattle.function_code.specs.declared.code.Class.{Class}
 use Rattle.fdl.specs.declared.telegram.Format.{Format}
 use Rattle.fdl.specs.declared.telegram.Format.TheVariants.{Sd1, Sd2, Sd3}
-use Rattle.fdl.specs.declared.reading.Reading.{Reading}
 
 overlong_sd2 : (le again second : ℕ) → Reading
 overlong_sd2 le again second =

@@ -1,6 +1,6 @@
 -- What a reading says of the bytes: one case for each kind of telegram, from the reading and back to it. Every law of
 -- Laws.antt starts from here.
-use Rattle.std.specs.Prelude.{◌≡◌, true, false, not, List, [], ◌∷◌, take, drop, eqb, ltb, leb}
+use Rattle.std.specs.Prelude.{◌≡◌, true, false, not, List, [], ◌∷◌, take, drop, eqb, ltb, leb, Ok, Err}
 use Rattle.std.proofs.Math.Path.{refl, ap, ap₂}
 use Rattle.std.proofs.Common.{sym, ◌∙◌, get_or-take}
 use Prim.Native.Nat.{ℕ, ◌+◌, ◌-◌, ◌%◌, ◌≤◌, ◌<◌}
@@ -9,21 +9,17 @@ use Rattle.std.proofs.Math.ListN.{length, get_or}
 use borrow.Author.Tests.{le-ltb, le-leb, leb-true, eq-eqb, ne_eqb, ltb-false, eqb-true, eqb-false, not-true, not-false}
 use Rattle.octets.proofs.Choice.{by_pick, and_left, and_right}
 use Rattle.octets.proofs.Elements.{part_elements, rest_elements}
-use Rattle.octets.specs.declared.Refusal.{Refusal}
 use Rattle.function_code.specs.Code.{is_reserved}
 use Rattle.fdl.specs.Telegram.{start_byte, token_byte, confirmation_byte, checksum_of, sap_length}
-use Rattle.fdl.specs.Reading.{extension_of, with_source, source_of, with_destination, destination_of, token_of, most_le, fields_of, framed_of, sd2_of, read_by}
+use Rattle.fdl.specs.Reading.{extension_of, with_source, source_of, with_destination, destination_of, token_of, most_le, fields_of, framed_of, sd2_of, read_by, Extension, Reading}
 use Rattle.fdl.specs.Writing.{start_bytes, token_bytes, confirmation_bytes, good_length}
 use Rattle.fdl.proofs.Lemmas.Extends.{Extends, Found, found, reads_extension}
 use Rattle.function_code.specs.declared.code.Class.{Class}
 use Rattle.fdl.specs.declared.telegram.Format.{Format}
 use Rattle.fdl.specs.declared.telegram.Format.TheVariants.{Sd1, Sd2, Sd3}
 use Rattle.fdl.specs.declared.telegram.Header.{Header}
-use Rattle.fdl.specs.declared.telegram.Sap.{Sap}
-use Rattle.fdl.specs.declared.reading.Extension.{Extension}
-use Rattle.fdl.specs.declared.reading.Extension.TheVariants.{Is, Refused as NotFound}
-use Rattle.fdl.specs.declared.reading.Reading.{Reading}
-use Rattle.fdl.specs.declared.reading.Reading.TheVariants.{Confirmation, Token, Telegram, Refused}
+use Rattle.fdl.specs.Sap.{Sap}
+use Rattle.fdl.specs.declared.reading.Reading.TheVariants.{Confirmation, Token, Telegram}
 
 -- ---- the cases
 
@@ -49,13 +45,13 @@ header_in s at dsap ssap =
 
 abbrev pub telegram_in : (s : List ℕ) (f : Format) (at pdu : ℕ) (dsap ssap : Sap) → Reading
 telegram_in s f at pdu dsap ssap =
-    Telegram f (header_in s at dsap ssap) (at + 3 + sap_length dsap + sap_length ssap) (pdu - sap_length dsap - sap_length ssap)
+    Ok (Telegram f (header_in s at dsap ssap) (at + 3 + sap_length dsap + sap_length ssap) (pdu - sap_length dsap - sap_length ssap))
 
 pub data Reads (classes : ℕ → Class) (s : List ℕ) : Reading → Type 0 where
-  confirmation : s ≡ confirmation_bytes → Reads classes s Confirmation
-  token : {da sa : ℕ} → s ≡ token_bytes da sa → da ≤ 126 → sa ≤ 126 → Reads classes s (Token da sa)
+  confirmation : s ≡ confirmation_bytes → Reads classes s (Ok Confirmation)
+  token : {da sa : ℕ} → s ≡ token_bytes da sa → da ≤ 126 → sa ≤ 126 → Reads classes s (Ok (Token da sa))
   telegram : {f : Format} {at pdu : ℕ} {dsap ssap : Sap} → Starts s f at pdu → Frames classes s at pdu dsap ssap → Reads classes s (telegram_in s f at pdu dsap ssap)
-  refusal : {r : Refusal} → Reads classes s (Refused r)
+  refusal : {r : ℕ} → Reads classes s (Err r)
 
 -- ---- from the reading to its case
 
@@ -76,15 +72,15 @@ module _ (classes : ℕ → Class) (s : List ℕ) where
         → (x : Extension) → Found s (get_or s (at + 1) 0) (at + 3 + sap_length dsap) (pdu - sap_length dsap) x
         → R (with_source x f (get_or s at 0) (get_or s (at + 1) 0) (get_or s (at + 2) 0) dsap (at + 3 + sap_length dsap) (pdu - sap_length dsap))
     unfolding R
-    by_source c dsap d (Is ssap) e =
+    by_source c dsap d (Ok ssap) e =
         telegram starts
         (record { size = c.size; ending = c.ending; sum = c.sum; source = c.source; code = c.code; destination_sap = d; source_sap = e })
-    by_source c dsap d (NotFound r) e = refusal
+    by_source c dsap d (Err r) e = refusal
 
     by_destination : Closed → (x : Extension) → Found s (get_or s at 0) (at + 3) pdu x → R (with_destination x s f at pdu)
     unfolding R source_of
-    by_destination c (Is dsap) d = by_source c dsap d (extension_of s (get_or s (at + 1) 0) (at + 3 + sap_length dsap) (pdu - sap_length dsap)) (found s _ _ _)
-    by_destination c (NotFound r) d = refusal
+    by_destination c (Ok dsap) d = by_source c dsap d (extension_of s (get_or s (at + 1) 0) (at + 3 + sap_length dsap) (pdu - sap_length dsap)) (found s _ _ _)
+    by_destination c (Err r) d = refusal
 
     by_frame : R (framed_of classes s f at pdu)
     unfolding R framed_of fields_of destination_of

@@ -8,10 +8,10 @@ use Rattle.fdl_writer.proofs.put_sap.Goals as goal
 
 pub bounds-out-0 : goal.bounds-out-0
 bounds-out-0 c =
-    let room : 1 ≤ length c.args.out.now = rw c.in-Present.is at c.requires in
+    let room : 1 ≤ length c.args.out.now = rw c.in-Some.is at c.requires in
     omega (arith, room)
 
-pub returns-in-Present : goal.returns-in-Present
-returns-in-Present c =
-    let room : 1 ≤ length c.args.out.now = rw c.in-Present.is at c.requires in
-    rw c.in-Present.is (stores (c.in-Present.number ∷ []) c.args.out.now room)
+pub returns-in-Some : goal.returns-in-Some
+returns-in-Some c =
+    let room : 1 ≤ length c.args.out.now = rw c.in-Some.is at c.requires in
+    rw c.in-Some.is (stores (c.in-Some.number ∷ []) c.args.out.now room)

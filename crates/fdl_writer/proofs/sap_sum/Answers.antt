@@ -2,5 +2,5 @@
 use native.Mathlib.Omega.{arith}
 use Rattle.fdl_writer.proofs.sap_sum.Goals as goal
 
-pub returns-in-Present : goal.returns-in-Present
-returns-in-Present c = rw c.in-Present.is (omega arith)
+pub returns-in-Some : goal.returns-in-Some
+returns-in-Some c = rw c.in-Some.is (omega arith)

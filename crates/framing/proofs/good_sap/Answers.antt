@@ -3,5 +3,5 @@ use mathlib.Core.Path.{sym, ap}
 use Rattle.fdl.specs.Writing.{good_sap}
 use Rattle.framing.proofs.good_sap.Goals as goal
 
-pub returns-in-Present : goal.returns-in-Present
-returns-in-Present c = sym (ap good_sap c.in-Present.is)
+pub returns-in-Some : goal.returns-in-Some
+returns-in-Some c = sym (ap good_sap c.in-Some.is)

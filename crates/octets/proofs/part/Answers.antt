@@ -5,7 +5,6 @@ use native.Mathlib.Omega.{arith}
 use lib.ListN.{length}
 use borrow.Author.Tests.{lt-leb, le-leb}
 use Rattle.octets.specs.Part.{part_of}
-use borrow.Author.Rules.{rules}
 use Rattle.octets.proofs.part.Goals as goal
 
 pub returns-then-total-start : goal.returns-then-total-start

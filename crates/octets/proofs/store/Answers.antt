@@ -1,6 +1,5 @@
 -- `octets::store` meets its contract: all is copied where it fits.
 use Rattle.octets.proofs.Front.{none_stored, all_stored, copied}
-use borrow.Author.Rules.{rules}
 use Rattle.octets.proofs.store.Goals as goal
 
 pub returns-then-out-source : goal.returns-then-out-source

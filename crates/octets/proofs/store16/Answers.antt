@@ -1,7 +1,6 @@
 -- `octets::store16` meets its contract: the stores from the front are the two bytes of the number.
 use Rattle.octets.specs.Number.{bytes_of}
 use Rattle.octets.proofs.Front.{none_stored, all_stored, stores}
-use borrow.Author.Rules.{rules}
 use Rattle.octets.proofs.store16.Goals as goal
 
 pub returns-then-out-lt2 : goal.returns-then-out-lt2

@@ -3,7 +3,6 @@ use native.Mathlib.Omega.{arith}
 use lib.ListN.{length-set}
 use Rattle.octets.specs.Number.{bytes_of}
 use Rattle.octets.proofs.Front.{none_stored, all_stored, stores}
-use borrow.Author.Rules.{rules}
 use Rattle.octets.proofs.store32.Goals as goal
 
 pub returns-then-out-lt4 : goal.returns-then-out-lt4

@@ -3,7 +3,6 @@ use Prim.Native.Nat.{◌-◌}
 use native.Mathlib.Omega.{arith}
 use lib.ListN.{length}
 use borrow.Rule.Slice.PartMut.{mid_of}
-use borrow.Author.Rules.{rules}
 use Rattle.octets.proofs.Front.{none_behind, all_behind, copied}
 use Rattle.octets.proofs.store_behind.Goals as goal
 

@@ -1,5 +1,5 @@
 -- What is read may be written, and gives the same bytes again.
-use Rattle.std.specs.Prelude.{ℕ, ◌+◌, ◌-◌, ◌≤◌, ◌≡◌, refl, List, [], ◌∷◌, ◌++◌, length, get_or, take, ltb}
+use Rattle.std.specs.Prelude.{ℕ, ◌+◌, ◌-◌, ◌≤◌, ◌≡◌, refl, List, [], ◌∷◌, ◌++◌, length, get_or, take, ltb, Ok, Err}
 use Rattle.std.proofs.Common.{sym, ap, ◌∙◌, ltb-false}
 use Rattle.octets.proofs.Choice.{by_pick}
 use Rattle.octets.specs.Bytes.{Bytes}
@@ -11,12 +11,10 @@ use Rattle.octets.proofs.Fixed.{by_verdict, number_again, part_long, part_tiles}
 use Rattle.octets.specs.declared.Mode.{Mode}
 use Rattle.octets.specs.declared.Mode.TheVariants as mode
 use Rattle.parameters.specs.Fields.{mode_of, fixed_length, verdict_of}
-use Rattle.parameters.specs.Reading.{extension_in, fields_in, read_of}
+use Rattle.parameters.specs.Reading.{extension_in, fields_in, read_of, Reading}
 use Rattle.parameters.specs.Writing.{fixed_bytes, front_bytes, Again}
 use Rattle.parameters.specs.declared.fields.Extension.{Extension}
 use Rattle.parameters.specs.declared.fields.Parameters.{Parameters}
-use Rattle.parameters.specs.declared.reading.Reading.{Reading}
-use Rattle.parameters.specs.declared.reading.Reading.TheVariants as reading
 
 mode_again : (s : List ℕ) (m : Mode) → mode_of (extension_in s m) ≡ m
 mode_again s mode.Dpv0 = refl
@@ -34,8 +32,8 @@ module _ (s : List ℕ) (bytes : Bytes s) where
 
   module _ (m : Mode) where
     abbrev pub AgainIn : Reading → Type 0
-    AgainIn (reading.Parameters f start len) = Again s m f (part_of s start len)
-    AgainIn (reading.Refused r) = Unit
+    AgainIn (Ok found) = Again s m found.fields (part_of s found.start found.len)
+    AgainIn (Err r) = Unit
 
     abbrev fields : Parameters
     fields = fields_in s (extension_in s m)

@@ -1,5 +1,5 @@
 -- What is written reads back: from the fields to the bytes, and to the reading.
-use Rattle.std.specs.Prelude.{ℕ, ◌+◌, ◌-◌, ◌≤◌, ◌<◌, ◌≡◌, refl, List, ◌++◌, ltb}
+use Rattle.std.specs.Prelude.{ℕ, ◌+◌, ◌-◌, ◌≤◌, ◌<◌, ◌≡◌, refl, List, ◌++◌, ltb, Ok}
 use Rattle.std.proofs.Common.{ap, ◌∙◌, le-ltb}
 use Rattle.std.proofs.Math.Path.{ap₂}
 use native.Mathlib.Omega.{arith}
@@ -16,7 +16,6 @@ use Rattle.parameters.proofs.Lemmas.Fields.{front_length, bytes_length}
 use Rattle.parameters.specs.declared.fields.Extension.{Extension}
 use Rattle.parameters.specs.declared.fields.Extension.TheVariants.{Dpv0, Dpv1}
 use Rattle.parameters.specs.declared.fields.Parameters.{Parameters}
-use Rattle.parameters.specs.declared.reading.Reading.TheVariants as reading
 
 extension_back : (f : Parameters) (e : Extension) (user : List ℕ) → extension_in ((fixed_bytes f ++ status_bytes e) ++ user) (mode_of e) ≡ e
 extension_back f Dpv0 user = refl
@@ -35,13 +34,13 @@ module _ (f : Parameters) (user : List ℕ) where
         record { flags = f.flags; factor1 = f.factor1; factor2 = f.factor2; response = f.response; ident = n; groups = f.groups; extension = e })
         (number_bytes 2 f.ident word) (extension_back f f.extension user)
 
-    pub alike : read_of (bytes_for f user) (mode_of f.extension) ≡ judged refused (verdict_for f user) (reading.Parameters f (user_start f) (length user))
+    pub alike : read_of (bytes_for f user) (mode_of f.extension) ≡ judged refused (verdict_for f user) (Ok (record { fields = f; start = user_start f; len = length user }))
     unfolding read_of
     alike =
         let long : user_start f ≤ user_start f + length user = omega arith in
         let len : user_start f + length user - user_start f ≡ length user = omega arith in
         ap₂
         (λ (n : ℕ) (g : Parameters).
-        pick (ltb n (user_start f)) (refused 20) (judged refused (verdict_of g n) (reading.Parameters g (user_start f) (n - user_start f))))
+        pick (ltb n (user_start f)) (refused 20) (judged refused (verdict_of g n) (Ok (record { fields = g; start = user_start f; len = n - user_start f }))))
         (bytes_length f user) fields_back
-        ∙ simp (le-ltb _ _ long) (ap (λ (n : ℕ). judged refused (verdict_for f user) (reading.Parameters f (user_start f) n)) len)
+        ∙ simp (le-ltb _ _ long) (ap (λ (n : ℕ). judged refused (verdict_for f user) (Ok (record { fields = f; start = user_start f; len = n }))) len)

@@ -1,5 +1,5 @@
 -- What is not refused: each verdict, and what it says.
-use Rattle.std.specs.Prelude.{ℕ, zero, suc, ◌≤◌, ◌≡◌, refl, Bool, true, false, List, [], ◌∷◌, eqb, ltb, length, get_or}
+use Rattle.std.specs.Prelude.{ℕ, zero, suc, ◌≤◌, ◌≡◌, refl, Bool, true, false, List, [], ◌∷◌, eqb, ltb, length, get_or, Ok, Err}
 use Rattle.std.proofs.Common.{arith, sym, le-ltb, ltb-false, ne_eqb}
 use Rattle.std.proofs.lemmas.Bool.{eqb-false}
 use Rattle.octets.specs.Choice.{pick, ◌or◌}
@@ -7,15 +7,10 @@ use Rattle.octets.proofs.Choice.{by_pick, never}
 use Rattle.octets.specs.Fixed.{judged}
 use Rattle.octets.proofs.Fixed.{passed, fault_fine}
 use Rattle.octets.specs.Front.{Verdict, fine, fault}
-use Rattle.octets.specs.declared.Refusal.{Refusal}
 use Rattle.diagnosis.specs.Reading as diagnosis-format
-use Rattle.diagnosis.specs.declared.reading.Reading as diagnosis-type
-use Rattle.diagnosis.specs.declared.reading.Reading.TheVariants as diagnosis-reading
 use Rattle.book.specs.Contents.{InOrder, templates_of}
 use Rattle.book.proofs.Laws.{templates_in_order}
 use Rattle.book.specs.Reading as book-format
-use Rattle.book.specs.declared.answers.Reading as book-type
-use Rattle.book.specs.declared.answers.Reading.TheVariants as book-reading
 use Rattle.protocol.specs.Slots.{too_long}
 use Rattle.protocol.specs.Words.{FramingRefuses}
 use Rattle.protocol.specs.Line.{DamagedBy, Damage}
@@ -88,13 +83,13 @@ short_at (n ∷ l) e i = by (ltb 200 n) refl e i (λ f k. short_at l f k)
     by false t f zero rest = ltb-false 200 n t
     by false t f (suc k) rest = rest f k
 
-pub unrefused : (r : diagnosis-type.Reading) → ((k : Refusal) → r ≡ diagnosis-reading.Refused k → ⊥) → printer-step.is_refused r ≡ false
-unrefused (diagnosis-reading.Diagnosis h n) f = refl
-unrefused (diagnosis-reading.Refused k) f = absurd (f k refl)
+pub unrefused : (r : diagnosis-format.Reading) → ((k : ℕ) → r ≡ Err k → ⊥) → printer-step.is_refused r ≡ false
+unrefused (Ok found) f = refl
+unrefused (Err k) f = absurd (f k refl)
 
-never_refused : (r : diagnosis-type.Reading) → printer-step.is_refused r ≡ false → (k : Refusal) → r ≡ diagnosis-reading.Refused k → ⊥
-never_refused (diagnosis-reading.Diagnosis h n) e k q = let z : ◌≡◌ {A = ℕ} 0 1 = cc in omega arith
-never_refused (diagnosis-reading.Refused j) e k q = never (sym e)
+never_refused : (r : diagnosis-format.Reading) → printer-step.is_refused r ≡ false → (k : ℕ) → r ≡ Err k → ⊥
+never_refused (Ok found) e k q = let z : ◌≡◌ {A = ℕ} 0 1 = cc in omega arith
+never_refused (Err j) e k q = never (sym e)
 
 pub fine_printer : (diag : List ℕ) (x : Station) → Usable diag x → printer-step.verdict_of diag x ≡ fine
 unfolding printer-step.verdict_of
@@ -125,16 +120,16 @@ usable diag x e =
 pub fine_book : (book : List ℕ) → Readable book → book_verdict (book-format.read_of book) ≡ fine
 fine_book book h = by (book-format.read_of book) h
   where
-    by : (r : book-type.Reading) → ((k : Refusal) → r ≡ book-reading.Refused k → ⊥) → book_verdict r ≡ fine
-    by (book-reading.Book n) f = refl
-    by (book-reading.Refused k) f = absurd (f k refl)
+    by : (r : book-format.Reading) → ((k : ℕ) → r ≡ Err k → ⊥) → book_verdict r ≡ fine
+    by (Ok n) f = refl
+    by (Err k) f = absurd (f k refl)
 
 pub readable : (book : List ℕ) → book_verdict (book-format.read_of book) ≡ fine → Readable book
 readable book e = by (book-format.read_of book) e
   where
-    by : (r : book-type.Reading) → book_verdict r ≡ fine → (k : Refusal) → r ≡ book-reading.Refused k → ⊥
-    by (book-reading.Book n) f k q = let z : ◌≡◌ {A = ℕ} 0 1 = cc in omega arith
-    by (book-reading.Refused j) f k q = fault_fine f
+    by : (r : book-format.Reading) → book_verdict r ≡ fine → (k : ℕ) → r ≡ Err k → ⊥
+    by (Ok n) f k q = let z : ◌≡◌ {A = ℕ} 0 1 = cc in omega arith
+    by (Err j) f k q = fault_fine f
 
 record Ordered (book : List ℕ) : Type 0 where
   in_order : InOrder 0 (templates_of book)
@@ -144,9 +139,9 @@ record Ordered (book : List ℕ) : Type 0 where
 ordered : (book : List ℕ) → book_verdict (book-format.read_of book) ≡ fine → Ordered book
 ordered book e = by (book-format.read_of book) refl e
   where
-    by : (r : book-type.Reading) → book-format.read_of book ≡ r → book_verdict r ≡ fine → Ordered book
-    by (book-reading.Book n) q f = let t = templates_in_order book q in record { in_order = t.0; some = omega (arith, t.1, t.2); most = omega (arith, t.1, t.3) }
-    by (book-reading.Refused r) q f = absurd (fault_fine f)
+    by : (r : book-format.Reading) → book-format.read_of book ≡ r → book_verdict r ≡ fine → Ordered book
+    by (Ok n) q f = let t = templates_in_order book q in record { in_order = t.0; some = omega (arith, t.1, t.2); most = omega (arith, t.1, t.3) }
+    by (Err r) q f = absurd (fault_fine f)
 
 -- ---- a line
 

@@ -1,13 +1,12 @@
 -- What the printer does with bytes that are no call, with a counted call that is new to it, and with the same call once more;
 -- and what stays whatever it hears.
-use Rattle.std.specs.Prelude.{ℕ, ◌≡◌, Bool, true, false, not, List, length, get_or, take, drop}
+use Rattle.std.specs.Prelude.{ℕ, ◌≡◌, Bool, true, false, not, List, length, get_or, take, drop, Ok, Err}
 use Rattle.std.proofs.Math.Path.{refl}
 use Rattle.std.proofs.Math.Seq.{take-append_seam}
 use borrow.Author.Tests.{eq-eqb}
 use Rattle.octets.proofs.Choice.{by_pick}
 use Rattle.octets.specs.Front.{over}
 use Rattle.fdl.specs.Reading as telegram
-use Rattle.fdl.specs.declared.reading.Reading as telegram-type
 use Rattle.fdl.specs.declared.reading.Reading.TheVariants as telegram-reading
 use Rattle.protocol.specs.Bits.{bits_agree}
 use Rattle.protocol.specs.Printer.{Ask, Received, nothing, elsewhere, status, uncounted, opening, counted, is_call_of, received_by, received_of, Deed, perform, Station, Heard, is_repeat, reply_bytes, new_call, heard_by, hear}
@@ -15,11 +14,11 @@ use Rattle.protocol.specs.Download.{Given, hears}
 
 -- ---- what is no call
 
-no_call : (address : ℕ) (s : List ℕ) (r : telegram-type.Reading) → is_call_of r ≡ false → received_by address s r ≡ nothing
-no_call address s telegram-reading.Confirmation e = refl
-no_call address s (telegram-reading.Token da sa) e = refl
-no_call address s (telegram-reading.Telegram f h start len) e = rw e
-no_call address s (telegram-reading.Refused r) e = refl
+no_call : (address : ℕ) (s : List ℕ) (r : telegram.Reading) → is_call_of r ≡ false → received_by address s r ≡ nothing
+no_call address s (Ok telegram-reading.Confirmation) e = refl
+no_call address s (Ok (telegram-reading.Token da sa)) e = refl
+no_call address s (Ok (telegram-reading.Telegram f h start len)) e = rw e
+no_call address s (Err r) e = refl
 
 -- Bytes that framing refuses, tokens, SC and answers change nothing and get nothing.
 pub not_a_call : (diag : List ℕ) (not_yet : ℕ) (s : List ℕ) (x : Station) → is_call_of (telegram.read_of s) ≡ false

@@ -1,11 +1,10 @@
 -- One request of the download on its way: the controller that asks, the printer to which it is new.
-use Rattle.std.specs.Prelude.{ℕ, suc, ◌+◌, ◌-◌, ◌≡◌, refl, Bool, true, false, not, List, [], ◌∷◌, eqb, length, get_or, take, drop}
+use Rattle.std.specs.Prelude.{ℕ, suc, ◌+◌, ◌-◌, ◌≡◌, refl, Bool, true, false, not, List, [], ◌∷◌, eqb, length, get_or, take, drop, Ok, Err}
 use Rattle.std.proofs.Common.{add-zero, arith, sym, ap, ◌∙◌, append-nil, eq-eqb}
 use Rattle.octets.specs.Choice.{pick, ◌and◌}
 use Rattle.octets.proofs.Choice.{never}
 use Rattle.fdl.specs.Contents.{accepted}
 use Rattle.fdl.specs.Reading as telegram
-use Rattle.fdl.specs.declared.reading.Reading as telegram-type
 use Rattle.fdl.specs.declared.reading.Reading.TheVariants as telegram-reading
 use Rattle.book.specs.Contents.{Entry}
 use Rattle.protocol.specs.Line.{Passage, Sending, stop, Damage}
@@ -31,17 +30,17 @@ use Rattle.protocol.specs.declared.printer.Pending.{Pending}
 
 -- ---- damage: bytes that framing refuses
 
-refused_no_call : (r : telegram-type.Reading) → accepted r ≡ false → is_call_of r ≡ false
-refused_no_call telegram-reading.Confirmation e = refl
-refused_no_call (telegram-reading.Token da sa) e = refl
-refused_no_call (telegram-reading.Telegram f h start len) e = absurd (never (sym e))
-refused_no_call (telegram-reading.Refused r) e = refl
+refused_no_call : (r : telegram.Reading) → accepted r ≡ false → is_call_of r ≡ false
+refused_no_call (Ok telegram-reading.Confirmation) e = refl
+refused_no_call (Ok (telegram-reading.Token da sa)) e = refl
+refused_no_call (Ok (telegram-reading.Telegram f h start len)) e = absurd (never (sym e))
+refused_no_call (Err r) e = refl
 
-refused_nothing : (c : Settings) (s : List ℕ) (r : telegram-type.Reading) → accepted r ≡ false → got_from c s r ≡ nothing
-refused_nothing c s telegram-reading.Confirmation e = absurd (never (sym e))
-refused_nothing c s (telegram-reading.Token da sa) e = absurd (never (sym e))
-refused_nothing c s (telegram-reading.Telegram f h start len) e = absurd (never (sym e))
-refused_nothing c s (telegram-reading.Refused r) e = refl
+refused_nothing : (c : Settings) (s : List ℕ) (r : telegram.Reading) → accepted r ≡ false → got_from c s r ≡ nothing
+refused_nothing c s (Ok telegram-reading.Confirmation) e = absurd (never (sym e))
+refused_nothing c s (Ok (telegram-reading.Token da sa)) e = absurd (never (sym e))
+refused_nothing c s (Ok (telegram-reading.Telegram f h start len)) e = absurd (never (sym e))
+refused_nothing c s (Err r) e = refl
 
 pub got_bad : (c : Settings) (s : List ℕ) → FramingRefuses s → got_in c s ≡ nothing
 unfolding got_in

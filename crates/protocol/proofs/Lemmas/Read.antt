@@ -1,6 +1,6 @@
 -- What the telegrams of a download are read as, at the other end.
 use Prim.Native.Nat.{ℕ, ◌+◌, ◌≤◌}
-use Rattle.std.specs.Prelude.{◌≡◌, Bool, eqb, leb, length}
+use Rattle.std.specs.Prelude.{◌≡◌, Bool, eqb, leb, length, Ok, Some}
 use Rattle.std.proofs.Math.Path.{refl, ap}
 use Rattle.std.proofs.Common.{◌∙◌, arith}
 use Rattle.std.proofs.Math.Bool.{true, false}
@@ -19,7 +19,6 @@ use Rattle.fdl.specs.Writing as telegram-writing
 use Rattle.function_code.specs.declared.code.Class.TheVariants as class
 use Rattle.fdl.specs.declared.telegram.Format.TheVariants.{Sd2}
 use Rattle.fdl.specs.declared.telegram.Header.{Header}
-use Rattle.fdl.specs.declared.telegram.Sap.TheVariants.{Present}
 use Rattle.fdl.specs.declared.reading.Reading.TheVariants as telegram-reading
 use Rattle.access.specs.Table.{services, look}
 use Rattle.access.specs.Route.{header_of, header_with, route_of, kind_of}
@@ -48,38 +47,38 @@ use Rattle.protocol.specs.declared.printer.Outcome.{Outcome}
 -- ---- the headers of requests and replies
 
 module _ (to from : ℕ) where
-  pub opening_header : header_of service.SlaveDiag to from opening_code ≡ header_with to from opening_code (Present 60) (Present 62)
+  pub opening_header : header_of service.SlaveDiag to from opening_code ≡ header_with to from opening_code (Some 60) (Some 62)
   unfolding header_of kind_of class_of
   opening_header = refl
 
-  pub counted_header : (fcb : Bool) → header_of service.Dpv1 to from (counted_code fcb) ≡ header_with to from (counted_code fcb) (Present 51) (Present 51)
+  pub counted_header : (fcb : Bool) → header_of service.Dpv1 to from (counted_code fcb) ≡ header_with to from (counted_code fcb) (Some 51) (Some 51)
   unfolding header_of kind_of class_of
   counted_header false = refl
   counted_header true = refl
 
-  pub diagnosis_header : header_of service.SlaveDiag to from reply_code ≡ header_with to from reply_code (Present 62) (Present 60)
+  pub diagnosis_header : header_of service.SlaveDiag to from reply_code ≡ header_with to from reply_code (Some 62) (Some 60)
   unfolding header_of kind_of class_of
   diagnosis_header = refl
 
-  pub result_header : header_of service.Dpv1 to from reply_code ≡ header_with to from reply_code (Present 51) (Present 51)
+  pub result_header : header_of service.Dpv1 to from reply_code ≡ header_with to from reply_code (Some 51) (Some 51)
   unfolding header_of kind_of class_of
   result_header = refl
 
   -- their routes
-  pub opening_route : route_of (header_with to from opening_code (Present 60) (Present 62)) ≡ route.Call service.SlaveDiag
+  pub opening_route : route_of (header_with to from opening_code (Some 60) (Some 62)) ≡ route.Call service.SlaveDiag
   unfolding route_of kind_of class_of look services
   opening_route = refl
 
-  pub counted_route : (fcb : Bool) → route_of (header_with to from (counted_code fcb) (Present 51) (Present 51)) ≡ route.Call service.Dpv1
+  pub counted_route : (fcb : Bool) → route_of (header_with to from (counted_code fcb) (Some 51) (Some 51)) ≡ route.Call service.Dpv1
   unfolding route_of kind_of class_of look services
   counted_route false = refl
   counted_route true = refl
 
-  pub diagnosis_route : route_of (header_with to from reply_code (Present 62) (Present 60)) ≡ route.Answer answering.SlaveDiag
+  pub diagnosis_route : route_of (header_with to from reply_code (Some 62) (Some 60)) ≡ route.Answer answering.SlaveDiag
   unfolding route_of kind_of class_of look services
   diagnosis_route = refl
 
-  pub result_route : route_of (header_with to from reply_code (Present 51) (Present 51)) ≡ route.Answer answering.Dpv1
+  pub result_route : route_of (header_with to from reply_code (Some 51) (Some 51)) ≡ route.Answer answering.Dpv1
   unfolding route_of kind_of class_of look services
   result_route = refl
 
@@ -101,7 +100,7 @@ module _ (to from : ℕ) where
 
 -- between two stations, with both access points
 pub writable : (to from fc a b : ℕ) (user : List ℕ) → to ≤ 126 → from ≤ 126 → is_reserved (class_of fc) ≡ false → leb a 63 ≡ true → leb b 63 ≡ true
-    → length user ≤ 244 → telegram-writing.verdict_of Sd2 (header_with to from fc (Present a) (Present b)) user ≡ fine
+    → length user ≤ 244 → telegram-writing.verdict_of Sd2 (header_with to from fc (Some a) (Some b)) user ≡ fine
 unfolding good_header verdict_by
 writable to from fc a b user t f k x y l =
     let da : leb to 127 ≡ true = le-leb to 127 (omega arith) in
@@ -182,7 +181,7 @@ module _ (c : Content) (to from fc : ℕ) (part : List ℕ) (m : Mode) (ident : 
   got_read = ap got_by (reads_back Sd2 to from fc c part m ident version e).0
 
   pub telegram_read : telegram.read_of (carrying c to from fc part)
-      ≡ telegram-reading.Telegram Sd2 (header_of (service_of c) to from fc) (user_start Sd2 (header_of (service_of c) to from fc)) (length (bytes_for c part))
+      ≡ Ok (telegram-reading.Telegram Sd2 (header_of (service_of c) to from fc) (user_start Sd2 (header_of (service_of c) to from fc)) (length (bytes_for c part)))
   unfolding verdict_of telegram_for
   telegram_read =
       telegram-laws.telegram_reads_back class_of Sd2 (header_of (service_of c) to from fc) (bytes_for c part)

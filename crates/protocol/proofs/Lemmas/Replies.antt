@@ -1,5 +1,5 @@
 -- What the controller makes of the printer's replies.
-use Rattle.std.specs.Prelude.{ℕ, ◌+◌, ◌-◌, ◌≤◌, ◌≡◌, true, false, length}
+use Rattle.std.specs.Prelude.{ℕ, ◌+◌, ◌-◌, ◌≤◌, ◌≡◌, true, false, length, Ok, Err}
 use Rattle.std.proofs.Math.Path.{refl, ap}
 use Rattle.std.proofs.Common.{sym, ◌∙◌}
 use mathlib.Core.List.{List, []}
@@ -23,14 +23,11 @@ use Rattle.access.specs.Route.{header_of}
 use Rattle.access.specs.declared.table.Service.TheVariants as service
 use Rattle.diagnosis.proofs.Laws.{read_is_tiled}
 use Rattle.diagnosis.specs.Reading as diagnosis-format
-use Rattle.diagnosis.specs.declared.reading.Reading as diagnosis-type
-use Rattle.diagnosis.specs.declared.reading.Reading.TheVariants as diagnosis-reading
 use Rattle.acyclic.specs.Answers as answers
 use Rattle.content.specs.Reading.{answer_of}
 use Rattle.content.specs.declared.fields.Content.{Content}
 use Rattle.content.specs.declared.fields.Content.TheVariants as content
 use Rattle.service.specs.Reading.{read_of}
-use Rattle.service.specs.declared.reading.Reading.TheVariants as service-reading
 use Rattle.service.specs.declared.reading.Way.TheVariants as way
 use Rattle.protocol.proofs.Lemmas.Read.{writable, diagnosis_header, diagnosis_route, result_header, reply_class, outcome_fine, telegram_read, got_read}
 use Rattle.protocol.specs.Telegrams.{reply_code, diagnosis_bytes, outcome_bytes}
@@ -46,9 +43,9 @@ use Rattle.protocol.specs.declared.printer.Outcome.TheVariants as outcome
 pub valid : (diag : List ℕ) → is_refused (diagnosis-format.read_of diag) ≡ false → Valid diag
 valid diag e = by (diagnosis-format.read_of diag) refl e
   where
-    by : (r : diagnosis-type.Reading) → diagnosis-format.read_of diag ≡ r → is_refused r ≡ false → Valid diag
-    by (diagnosis-reading.Diagnosis h n) q f = record { header = h; blocks = n; read = q }
-    by (diagnosis-reading.Refused r) q f = absurd (never (sym f))
+    by : (r : diagnosis-format.Reading) → diagnosis-format.read_of diag ≡ r → is_refused r ≡ false → Valid diag
+    by (Ok found) q f = record { header = found.header; blocks = found.blocks; read = q }
+    by (Err r) q f = absurd (never (sym f))
 
 -- a diagnosis reply between two stations: its framing, and the service's answer
 module _ (to from : ℕ) (t : to ≤ 126) (f : from ≤ 126) (diag : List ℕ) (v : Valid diag) where
@@ -60,14 +57,14 @@ module _ (to from : ℕ) (t : to ≤ 126) (f : from ≤ 126) (diag : List ℕ) (
       rw (diagnosis_header to from)
       (writable to from reply_code 62 60 diag t f (ap is_reserved (reply_class to from)) refl refl (read_is_tiled diag v.read).short)
 
-  pub diagnosis_framed : telegram.read_of (diagnosis_bytes to from diag) ≡ telegram-reading.Telegram Sd2 head (user_start Sd2 head) (length diag)
+  pub diagnosis_framed : telegram.read_of (diagnosis_bytes to from diag) ≡ Ok (telegram-reading.Telegram Sd2 head (user_start Sd2 head) (length diag))
   diagnosis_framed = telegram-laws.telegram_reads_back class_of Sd2 head diag diagnosis_fine
 
   diagnosis_user : part_of (diagnosis_bytes to from diag) (user_start Sd2 head) (length diag) ≡ diag
   diagnosis_user = user_back class_of Sd2 head diag (fields.writable class_of Sd2 head diag diagnosis_fine)
 
   pub diagnosis_read : read_of (diagnosis_bytes to from diag) mode.Dpv1
-      ≡ service-reading.Service Sd2 head way.Answer (content.SlaveDiag v.header) (user_start Sd2 head + 6) (length diag - 6)
+      ≡ Ok (record { format = Sd2; header = head; way = way.Answer; content = content.SlaveDiag v.header; start = user_start Sd2 head + 6; len = length diag - 6 })
   unfolding read_of answer_of
   diagnosis_read = rw (diagnosis_framed, diagnosis_user, diagnosis_header to from, diagnosis_route to from, v.read)
 

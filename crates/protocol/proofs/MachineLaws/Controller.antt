@@ -1,6 +1,6 @@
 -- What holds of the controller's step at every settings, book, state and reply.
 use Prim.Native.Nat.{ℕ, zero, suc, ◌+◌, ◌-◌}
-use Rattle.std.specs.Prelude.{◌≡◌, refl, Bool, true, false, not, List, [], ◌∷◌, eqb, length}
+use Rattle.std.specs.Prelude.{◌≡◌, refl, Bool, true, false, not, List, [], ◌∷◌, eqb, length, Ok, Err}
 use Rattle.std.proofs.Math.Path.{sym, ap}
 use Rattle.std.proofs.Common.{◌∙◌, subst, arith, drop-drop, eqb-true}
 use Rattle.std.proofs.Math.ListN.{drop}
@@ -8,7 +8,6 @@ use Rattle.octets.specs.Choice.{pick, ◌and◌}
 use Rattle.octets.proofs.Choice.{by_pick, and_left, and_right, never}
 use Rattle.fdl.specs.Contents.{accepted}
 use Rattle.fdl.specs.Reading as telegram
-use Rattle.fdl.specs.declared.reading.Reading as telegram-type
 use Rattle.fdl.specs.declared.reading.Reading.TheVariants as telegram-reading
 use Rattle.fdl.specs.declared.telegram.Format.{Format}
 use Rattle.fdl.specs.declared.telegram.Format.TheVariants.{Sd1, Sd2, Sd3}
@@ -47,11 +46,11 @@ from_printer (negative code1 code2) = true
 from_printer other = false
 
 -- data from the printer set to the controller set, in SD2
-pub record Own (c : Settings) (r : telegram-type.Reading) : Type 0 where
+pub record Own (c : Settings) (r : telegram.Reading) : Type 0 where
   pub header : Header
   pub start : ℕ
   pub len : ℕ
-  pub read : r ≡ telegram-reading.Telegram Sd2 header start len
+  pub read : r ≡ Ok (telegram-reading.Telegram Sd2 header start len)
   pub code : header.fc ≡ reply_code
   pub source : header.sa ≡ c.printer
   pub destination : header.da ≡ c.controller
@@ -66,7 +65,7 @@ module _ (c : Settings) (s : List ℕ) where
   format Sd2 e = refl
   format Sd3 e = absurd (never e)
 
-  pub own : (f : Format) (h : Header) (start len : ℕ) → is_printers c f h ≡ true → Own c (telegram-reading.Telegram f h start len)
+  pub own : (f : Format) (h : Header) (start len : ℕ) → is_printers c f h ≡ true → Own c (Ok (telegram-reading.Telegram f h start len))
   own f h start len e =
       let code : Bool = eqb h.fc reply_code in
       let from : Bool = eqb h.sa c.printer in
@@ -77,17 +76,17 @@ module _ (c : Settings) (s : List ℕ) where
         header = h;
         start = start;
         len = len;
-        read = ap (λ (k : Format). telegram-reading.Telegram k h start len) (format f (and_left (is_sd2 f) (code and from and to) e));
+        read = ap (λ (k : Format). (Ok (telegram-reading.Telegram k h start len))) (format f (and_left (is_sd2 f) (code and from and to) e));
         code = eqb-true h.fc reply_code (and_left code (from and to) e2);
         source = eqb-true h.sa c.printer (and_left from to e3);
         destination = eqb-true h.da c.controller (and_right from to e3);
       }
 
-  by_reading : (r : telegram-type.Reading) → from_printer (got_from c s r) ≡ true → Own c r
-  by_reading telegram-reading.Confirmation e = absurd (never e)
-  by_reading (telegram-reading.Token da sa) e = absurd (never e)
-  by_reading (telegram-reading.Telegram f h start len) e = own f h start len (tested (is_printers c f h) _ e)
-  by_reading (telegram-reading.Refused r) e = absurd (never e)
+  by_reading : (r : telegram.Reading) → from_printer (got_from c s r) ≡ true → Own c r
+  by_reading (Ok telegram-reading.Confirmation) e = absurd (never e)
+  by_reading (Ok (telegram-reading.Token da sa)) e = absurd (never e)
+  by_reading (Ok (telegram-reading.Telegram f h start len)) e = own f h start len (tested (is_printers c f h) _ e)
+  by_reading (Err r) e = absurd (never e)
 
   -- A diagnosis, 5F or DF is taken only from the printer set, to the controller set, by SD2 with function code 08.
   pub printers_own : from_printer (got_in c s) ≡ true → Own c (telegram.read_of s)

@@ -1,6 +1,6 @@
 -- What a reply is to the controller, at every settings and every list of bytes: each case exactly when document 01 says so
 -- of the telegram's fields and of the bytes of its user data.
-use Rattle.std.specs.Prelude.{ℕ, ◌≡◌, Bool, true, false, not, ◌↔◌, ltb, length}
+use Rattle.std.specs.Prelude.{ℕ, ◌≡◌, Bool, true, false, not, ◌↔◌, ltb, length, Ok, Err, Some, None}
 use Rattle.std.proofs.Math.Path.{refl, ap, subst}
 use Rattle.std.proofs.Common.{sym, ◌∙◌}
 use mathlib.Core.List.{List, [], ◌∷◌}
@@ -18,24 +18,20 @@ use Rattle.fdl.proofs.Lemmas.Reads.{Reads, reads}
 use Rattle.fdl.specs.Reading as telegram
 use Rattle.fdl.specs.Reading.{extension_of, source_of, destination_of, token_of, fields_of, framed_of, sd2_of, read_by}
 use Rattle.fdl.specs.Telegram.{checksum_of}
-use Rattle.fdl.specs.declared.reading.Reading as telegram-type
 use Rattle.fdl.specs.declared.reading.Reading.TheVariants as telegram-reading
 use Rattle.fdl.specs.declared.telegram.Format.{Format}
 use Rattle.fdl.specs.declared.telegram.Format.TheVariants.{Sd2}
 use Rattle.fdl.specs.declared.telegram.Header.{Header}
-use Rattle.fdl.specs.declared.telegram.Sap.TheVariants.{Present}
 use Rattle.access.proofs.Laws as access-laws
 use Rattle.access.specs.Laws as access-laws-words
 use Rattle.access.specs.Route.{kind_of, named_by, answerer_of, answer_route, route_of, header_of, header_with}
-use Rattle.access.specs.Table.{services, look}
+use Rattle.access.specs.Table.{services, look, Named}
 use Rattle.access.specs.declared.route.Answering.{Answering}
 use Rattle.access.specs.declared.route.Answering.TheVariants as answering
 use Rattle.access.specs.declared.route.Route.TheVariants as route
-use Rattle.access.specs.declared.table.Named.{Named}
-use Rattle.access.specs.declared.table.Named.TheVariants.{Is, Nothing}
 use Rattle.access.specs.declared.table.Service.{Service}
 use Rattle.access.specs.declared.table.Service.TheVariants as service
-use Rattle.acyclic.specs.Answers.{four_of, read_answer_of, bytes_for, verdict_for}
+use Rattle.acyclic.specs.Answers.{four_of, read_answer_of, bytes_for, verdict_for, AnswerReading}
 use Rattle.acyclic.specs.Errors.{good_decode, named_in, good_code1}
 use Rattle.acyclic.specs.Forms.{alone_of, ranged_of, counted_of, counted_as_of, negative_of, by_number, where_allowed}
 use Rattle.acyclic.proofs.Laws.{answer_reads_back, answer_writes_back}
@@ -43,22 +39,14 @@ use Rattle.acyclic.proofs.Lemmas.Forms.{no_bytes}
 use Rattle.acyclic.specs.Numbers.{failed_by}
 use Rattle.acyclic.specs.declared.answers.Answer.{Answer}
 use Rattle.acyclic.specs.declared.answers.Answer.TheVariants as answer
-use Rattle.acyclic.specs.declared.answers.AnswerReading.{AnswerReading}
-use Rattle.acyclic.specs.declared.answers.AnswerReading.TheVariants as answer-reading
 use Rattle.acyclic.specs.declared.numbers.Function.TheVariants as function
 use Rattle.configuration.specs.Reading as configuration
-use Rattle.configuration.specs.declared.reading.Reading as configuration-type
-use Rattle.configuration.specs.declared.reading.Reading.TheVariants as configuration-reading
 use Rattle.diagnosis.specs.Block.{good_code, channel_of, found_by}
 use Rattle.diagnosis.specs.Reading as diagnosis-format
 use Rattle.diagnosis.specs.Reading.{good_status1, good_status2, good_master, blocks_in, ext_diag_agrees, judge}
-use Rattle.diagnosis.specs.declared.reading.Reading as diagnosis-type
-use Rattle.diagnosis.specs.declared.reading.Reading.TheVariants as diagnosis-reading
-use Rattle.content.specs.Reading.{plain_of, configuration_in, diagnosis_in, dpv1_answer_in, answer_of}
+use Rattle.content.specs.Reading.{plain_of, configuration_in, diagnosis_in, dpv1_answer_in, answer_of, UserData}
 use Rattle.content.specs.declared.fields.Content.{Content}
 use Rattle.content.specs.declared.fields.Content.TheVariants as content
-use Rattle.content.specs.declared.reading.UserData.{UserData}
-use Rattle.content.specs.declared.reading.UserData.TheVariants as user-data
 use Rattle.service.specs.Reading.{placed_at, routed_by, read_of}
 use Rattle.service.specs.declared.reading.Way.TheVariants as way
 use Rattle.protocol.specs.Controller.{Got, nothing, confirmation, diagnosis, positive, negative, other, is_printers, got_of_dpv1, got_by, got_from, got_in}
@@ -84,8 +72,8 @@ module _ (c : Settings) (s : List ℕ) where
   Only other = Unit {0}
 
   -- from the printer, with user data that an answer's format reads
-  module _ {f : Format} {h : Header} {start len : ℕ} (framed : telegram.read_of s ≡ telegram-reading.Telegram f h start len)
-      (o : Own c (telegram-reading.Telegram f h start len))
+  module _ {f : Format} {h : Header} {start len : ℕ} (framed : telegram.read_of s ≡ Ok (telegram-reading.Telegram f h start len))
+      (o : Own c (Ok (telegram-reading.Telegram f h start len)))
     where
       abbrev user : List ℕ
       user = part_of s start len
@@ -93,31 +81,31 @@ module _ (c : Settings) (s : List ℕ) where
       header_is : h ≡ o.header
       header_is = let e = o.read in cc
 
-      from_printer_lem : (x : Service) (dsap ssap : ℕ) → header_of x c.controller c.printer 0x08 ≡ header_with c.controller c.printer 0x08 (Present dsap) (Present ssap)
+      from_printer_lem : (x : Service) (dsap ssap : ℕ) → header_of x c.controller c.printer 0x08 ≡ header_with c.controller c.printer 0x08 (Some dsap) (Some ssap)
           → header_of x h.da h.sa h.fc ≡ h → FromPrinter c dsap ssap user s
       from_printer_lem x dsap ssap points again =
           let e = o.read in
           let da : h.da ≡ c.controller = ap (λ (k : Header). k.da) header_is ∙ o.destination in
           let sa : h.sa ≡ c.printer = ap (λ (k : Header). k.sa) header_is ∙ o.source in
           let fc : h.fc ≡ 0x08 = ap (λ (k : Header). k.fc) header_is ∙ o.code in
-          let same : header_with c.controller c.printer 0x08 (Present dsap) (Present ssap) ≡ h = sym points ∙ rw (← da, ← sa, ← fc) again in
+          let same : header_with c.controller c.printer 0x08 (Some dsap) (Some ssap) ≡ h = sym points ∙ rw (← da, ← sa, ← fc) again in
           record { start = start; len = len; framed = cc; bytes = refl }
 
       -- as an answer from a service that answers, or from none
       abbrev GotBy : UserData → Got
       GotBy d = got_by (placed_at f h way.Answer start d)
 
-      plain : (x : Content) → Only (GotBy (user-data.Is x 0 (length user))) → Only (GotBy (plain_of x (length user)))
+      plain : (x : Content) → Only (GotBy (Ok (record { fields = x; start = 0; len = length user }))) → Only (GotBy (plain_of x (length user)))
       unfolding plain_of
       plain x e = by_pick (λ (d : UserData). Only (GotBy d)) (ltb 244 (length user)) (λ _. tt) (λ _. e)
 
-      configured : (r : configuration-type.Reading) → Only (GotBy (configuration_in content.GetCfg r (length user)))
-      configured (configuration-reading.Configuration modules i k) = tt
-      configured (configuration-reading.Refused r) = tt
+      configured : (r : configuration.Reading) → Only (GotBy (configuration_in content.GetCfg r (length user)))
+      configured (Ok found) = tt
+      configured (Err r) = tt
 
-      diagnosed : FromPrinter c 62 60 user s → (r : diagnosis-type.Reading) → diagnosis-format.read_of user ≡ r → Only (GotBy (diagnosis_in r (length user)))
-      diagnosed k (diagnosis-reading.Diagnosis d blocks) e = record { user = user; from = k; read = ap is_refused e }
-      diagnosed k (diagnosis-reading.Refused r) e = tt
+      diagnosed : FromPrinter c 62 60 user s → (r : diagnosis-format.Reading) → diagnosis-format.read_of user ≡ r → Only (GotBy (diagnosis_in r (length user)))
+      diagnosed k (Ok found) e = record { user = user; from = k; read = ap is_refused e }
+      diagnosed k (Err r) e = tt
 
       -- DPV1: by the bytes that the answer is written as
       module _ (from : FromPrinter c 51 51 user s) where
@@ -161,8 +149,8 @@ module _ (c : Settings) (s : List ℕ) where
         by_answer (answer.Negative function.Transport decode code1 code2) part taken same = tt
 
         by_dpv1 : (r : AnswerReading) → read_answer_of user ≡ r → Only (GotBy (dpv1_answer_in r))
-        by_dpv1 (answer-reading.Answer x at count) e = let w = answer_writes_back user e in by_answer x (part_of user at count) w.0 w.1
-        by_dpv1 (answer-reading.Refused r) e = tt
+        by_dpv1 (Ok found) e = let w = answer_writes_back user e in by_answer found.fields (part_of user found.start found.len) w.0 w.1
+        by_dpv1 (Err r) e = tt
 
       -- the header that leads to a service is the one that its telegram has
       led : {a : Answering} → route_of h ≡ route.Answer a → header_of (answerer_of a) h.da h.sa h.fc ≡ h
@@ -170,19 +158,19 @@ module _ (c : Settings) (s : List ℕ) where
 
       by_named : (n : Named) → route_of h ≡ answer_route n → Only (got_by (routed_by (answer_route n) f h start user mode.Dpv1))
       unfolding answer_of
-      by_named Nothing e = tt
-      by_named (Is service.DataExchange) e = plain content.DataExchange tt
-      by_named (Is service.Dpv1) e = by_dpv1 (from_printer_lem service.Dpv1 51 51 (result_header c.controller c.printer) (led e)) (read_answer_of user) refl
-      by_named (Is service.ExtUserPrm) e = tt
-      by_named (Is service.SetSlaveAdr) e = tt
-      by_named (Is service.RdInp) e = plain content.RdInp tt
-      by_named (Is service.RdOutp) e = plain content.RdOutp tt
-      by_named (Is service.GlobalControl) e = tt
-      by_named (Is service.GetCfg) e = configured (configuration.read_of user)
-      by_named (Is service.SlaveDiag) e =
+      by_named None e = tt
+      by_named (Some service.DataExchange) e = plain content.DataExchange tt
+      by_named (Some service.Dpv1) e = by_dpv1 (from_printer_lem service.Dpv1 51 51 (result_header c.controller c.printer) (led e)) (read_answer_of user) refl
+      by_named (Some service.ExtUserPrm) e = tt
+      by_named (Some service.SetSlaveAdr) e = tt
+      by_named (Some service.RdInp) e = plain content.RdInp tt
+      by_named (Some service.RdOutp) e = plain content.RdOutp tt
+      by_named (Some service.GlobalControl) e = tt
+      by_named (Some service.GetCfg) e = configured (configuration.read_of user)
+      by_named (Some service.SlaveDiag) e =
           diagnosed (from_printer_lem service.SlaveDiag 62 60 (diagnosis_header c.controller c.printer) (led e)) (diagnosis-format.read_of user) refl
-      by_named (Is service.SetPrm) e = tt
-      by_named (Is service.ChkCfg) e = tt
+      by_named (Some service.SetPrm) e = tt
+      by_named (Some service.ChkCfg) e = tt
 
       -- function code 08 is an answer's
       routed : route_of h ≡ answer_route (named_by h.ssap h.dsap)
@@ -193,12 +181,12 @@ module _ (c : Settings) (s : List ℕ) where
       unfolding read_of
       by_service = rw (framed, routed) (by_named (named_by h.ssap h.dsap) routed)
 
-  by_telegram : (r : telegram-type.Reading) → telegram.read_of s ≡ r → Reads class_of s r → Only (got_from c s r)
-  by_telegram telegram-reading.Confirmation q (case.confirmation e) = e
-  by_telegram (telegram-reading.Token da sa) q k = tt
-  by_telegram (telegram-reading.Telegram f h start len) q k =
+  by_telegram : (r : telegram.Reading) → telegram.read_of s ≡ r → Reads class_of s r → Only (got_from c s r)
+  by_telegram (Ok telegram-reading.Confirmation) q (case.confirmation e) = e
+  by_telegram (Ok (telegram-reading.Token da sa)) q k = tt
+  by_telegram (Ok (telegram-reading.Telegram f h start len)) q k =
       by_pick Only (is_printers c f h) (λ e. by_service q (own c s f h start len e)) (λ _. tt)
-  by_telegram (telegram-reading.Refused r) q k = ap accepted q
+  by_telegram (Err r) q k = ap accepted q
 
   only : {g : Got} → got_in c s ≡ g → Only g
   unfolding got_in
@@ -208,7 +196,7 @@ module _ (c : Settings) (s : List ℕ) where
 
   module _ {dsap ssap : ℕ} {user : List ℕ} (k : FromPrinter c dsap ssap user s) where
     abbrev head : Header
-    head = header_with c.controller c.printer 0x08 (Present dsap) (Present ssap)
+    head = header_with c.controller c.printer 0x08 (Some dsap) (Some ssap)
 
     abbrev GotAs : UserData → Got
     GotAs d = got_by (placed_at Sd2 head way.Answer k.start d)
@@ -231,7 +219,7 @@ module _ (c : Settings) (s : List ℕ) where
   diagnosis_when d =
       let v = valid d.user d.read in
       by_user d.from (diagnosis_route c.controller c.printer)
-      ∙ ap (λ (r : diagnosis-type.Reading). GotAs d.from (diagnosis_in r (length d.user))) v.read
+      ∙ ap (λ (r : diagnosis-format.Reading). GotAs d.from (diagnosis_in r (length d.user))) v.read
 
   positive_when : {slot index len : ℕ} → Positive c slot index len s → got_in c s ≡ positive slot index len
   unfolding ranged_of

@@ -1,6 +1,6 @@
 -- What the printer keeps, and what alone changes its pending result, its count of writes and its slots: at every state and every
 -- telegram.
-use Rattle.std.specs.Prelude.{ℕ, zero, suc, ◌%◌, ◌≡◌, refl, Bool, true, false, List, eqb}
+use Rattle.std.specs.Prelude.{ℕ, zero, suc, ◌%◌, ◌≡◌, refl, Bool, true, false, List, eqb, Ok, Err}
 use Rattle.std.proofs.Common.{sym, ◌∙◌, subst, eqb-true}
 use Rattle.octets.specs.Choice.{◌or◌}
 use Rattle.octets.proofs.Choice.{by_pick, never}
@@ -10,15 +10,12 @@ use Rattle.function_code.specs.Code.{class_of}
 use Rattle.function_code.specs.declared.code.Class.{Class}
 use Rattle.function_code.specs.declared.code.Class.TheVariants as class
 use Rattle.fdl.specs.Reading as telegram
-use Rattle.fdl.specs.declared.reading.Reading as telegram-type
 use Rattle.fdl.specs.declared.reading.Reading.TheVariants as telegram-reading
 use Rattle.fdl.specs.declared.telegram.Header.{Header}
 use Rattle.acyclic.specs.declared.calls.Call.TheVariants as call
 use Rattle.content.specs.declared.fields.Content.{Content}
 use Rattle.content.specs.declared.fields.Content.TheVariants as content
 use Rattle.service.specs.Reading as service
-use Rattle.service.specs.declared.reading.Reading as service-type
-use Rattle.service.specs.declared.reading.Reading.TheVariants as service-reading
 use Rattle.protocol.specs.Printer.{Ask, write, poll, Received, nothing, elsewhere, status, uncounted, opening, counted, ask_of, ask_by, is_srd, ask_in, fcb_of, is_call, called_by, received_by, received_of, perform, Station, Heard, is_repeat, heard_by, hear}
 use Rattle.protocol.specs.MachineLaws.Effects.{Calls, New, Srd, low, high, Asks, Same, Becomes, kept, opened, wrote, waited, fetched}
 use Rattle.protocol.proofs.MachineLaws.Calls.{repeats}
@@ -95,11 +92,11 @@ module _ (diag : List ℕ) (not_yet : ℕ) (s : List ℕ) (x : Station) where
     by_content (content.SetPrm f) part a = kept
     by_content content.ChkCfg part a = kept
 
-    by_service : Srd h.fc → (r : service-type.Reading) → service.read_of s mode.Dpv1 ≡ r → Done x.printer.pending (ask_by s r)
-    by_service srd (service-reading.Service f g w c start len) e =
-        by_content c (part_of s start len)
-        (record { srd = srd; carries = record { format = f; header = g; way = w; start = start; len = len; read = e; bytes = refl } })
-    by_service srd (service-reading.Refused r) e = by_pick (Done x.printer.pending) (eqb r.number 10) (λ _. kept) (λ _. kept)
+    by_service : Srd h.fc → (r : service.Reading) → service.read_of s mode.Dpv1 ≡ r → Done x.printer.pending (ask_by s r)
+    by_service srd (Ok found) e =
+        by_content found.content (part_of s found.start found.len)
+        (record { srd = srd; carries = record { format = found.format; header = found.header; way = found.way; start = found.start; len = found.len; read = e; bytes = refl } })
+    by_service srd (Err r) e = by_pick (Done x.printer.pending) (eqb r 10) (λ _. kept) (λ _. kept)
 
     by_new : Done x.printer.pending (ask_in s h.fc)
     unfolding ask_in
@@ -116,16 +113,16 @@ module _ (diag : List ℕ) (not_yet : ℕ) (s : List ℕ) (x : Station) where
   by_class class.Data h c = kept
   by_class class.Reserved h c = kept
 
-  by_reading : (r : telegram-type.Reading) → telegram.read_of s ≡ r → After (heard_by diag not_yet (received_by x.printer.address s r) x)
-  by_reading telegram-reading.Confirmation e = kept
-  by_reading (telegram-reading.Token da sa) e = kept
-  by_reading (telegram-reading.Telegram f h start len) e =
+  by_reading : (r : telegram.Reading) → telegram.read_of s ≡ r → After (heard_by diag not_yet (received_by x.printer.address s r) x)
+  by_reading (Ok telegram-reading.Confirmation) e = kept
+  by_reading (Ok (telegram-reading.Token da sa)) e = kept
+  by_reading (Ok (telegram-reading.Telegram f h start len)) e =
       by_pick (λ r. After (heard_by diag not_yet r x)) (is_call (class_of h.fc)) (λ _.
       by_pick (λ r. After (heard_by diag not_yet r x)) (eqb h.da x.printer.address) (λ o.
       by_class (class_of h.fc) h
       (record { framed = record { format = f; start = start; len = len; read = e; code = refl }; own = eqb-true h.da x.printer.address o }))
       (λ _. kept)) (λ _. kept)
-  by_reading (telegram-reading.Refused r) e = kept
+  by_reading (Err r) e = kept
 
 -- Its pending result, its count of writes and its slots change only by an opening call, by a new write with none pending and by a new
 -- poll of a pending result.

@@ -1,5 +1,5 @@
 -- What the printer sends: SC, a bare answer in SD1, or data that the service reader reads.
-use Rattle.std.specs.Prelude.{ℕ, zero, suc, ◌%◌, ◌≤◌, ◌≡◌, Bool, true, not, eqb, leb, ltb, length, take}
+use Rattle.std.specs.Prelude.{ℕ, zero, suc, ◌%◌, ◌≤◌, ◌≡◌, Bool, true, not, eqb, leb, ltb, length, take, Ok, None}
 use Rattle.std.proofs.Math.Path.{refl}
 use Rattle.std.proofs.Common.{sym, subst, arith, le-leb, le-ltb, ltb-false}
 use mathlib.Core.List.{List, []}
@@ -16,12 +16,10 @@ use Rattle.fdl.specs.Writing.{good_header, verdict_by}
 use Rattle.fdl.specs.Writing as telegram-writing
 use Rattle.function_code.specs.declared.code.Class.{Class}
 use Rattle.function_code.specs.declared.code.Class.TheVariants as class
-use Rattle.fdl.specs.declared.reading.Reading as telegram-type
 use Rattle.fdl.specs.declared.reading.Reading.TheVariants as telegram-reading
 use Rattle.fdl.specs.declared.telegram.Format.{Format}
 use Rattle.fdl.specs.declared.telegram.Format.TheVariants.{Sd1, Sd2}
 use Rattle.fdl.specs.declared.telegram.Header.{Header}
-use Rattle.fdl.specs.declared.telegram.Sap.TheVariants.{Absent}
 use Rattle.access.specs.Route.{header_with}
 use Rattle.acyclic.specs.Answers as answers
 use Rattle.acyclic.specs.Errors.{named_in, good_code1}
@@ -30,7 +28,6 @@ use Rattle.content.specs.declared.fields.Content.{Content}
 use Rattle.content.specs.declared.fields.Content.TheVariants as content
 use Rattle.service.proofs.Laws.{reads_back}
 use Rattle.service.specs.Reading as service
-use Rattle.service.specs.declared.reading.Reading.TheVariants as service-reading
 use Rattle.service.specs.declared.reading.Way.TheVariants as way
 use Rattle.protocol.specs.Slots.{Slots}
 use Rattle.protocol.proofs.Lemmas.Read.{outcome_fine, result_header, result_route}
@@ -67,9 +64,9 @@ left_fine (left boarding slot index len) =
 
 pub data Proper (s : List ℕ) : Type 0 where
   silent : s ≡ [] → Proper s
-  confirms : telegram.read_of s ≡ telegram-reading.Confirmation → Proper s
-  bare : {h : Header} {start : ℕ} → telegram.read_of s ≡ telegram-reading.Telegram Sd1 h start 0 → class_of h.fc ≡ class.Bare → Proper s
-  carries : {f : Format} {h : Header} {c : Content} {start len : ℕ} → service.read_of s mode.Dpv1 ≡ service-reading.Service f h way.Answer c start len → Proper s
+  confirms : telegram.read_of s ≡ Ok telegram-reading.Confirmation → Proper s
+  bare : {h : Header} {start : ℕ} → telegram.read_of s ≡ Ok (telegram-reading.Telegram Sd1 h start 0) → class_of h.fc ≡ class.Bare → Proper s
+  carries : {f : Format} {h : Header} {c : Content} {start len : ℕ} → service.read_of s mode.Dpv1 ≡ Ok (record { format = f; header = h; way = way.Answer; content = c; start = start; len = len }) → Proper s
 
 -- a bare reply has a bare code, and a result was left by a write
 abbrev Fits : Reply → Type 0
@@ -78,7 +75,7 @@ Fits (printer.bare function) = class_of function ≡ class.Bare
 Fits diagnosis = Unit {0}
 Fits (result o) = Left o
 
-pub bare_fine : (to from : ℕ) → to ≤ 126 → from ≤ 126 → (function : ℕ) → class_of function ≡ class.Bare → telegram-writing.verdict_of Sd1 (header_with to from function Absent Absent) [] ≡ fine
+pub bare_fine : (to from : ℕ) → to ≤ 126 → from ≤ 126 → (function : ℕ) → class_of function ≡ class.Bare → telegram-writing.verdict_of Sd1 (header_with to from function None None) [] ≡ fine
 unfolding good_header verdict_by
 bare_fine to from t f function e =
     let da : leb to 127 ≡ true = le-leb to 127 (omega arith) in
@@ -89,7 +86,7 @@ module _ (diag : List ℕ) (to from : ℕ) (t : to ≤ 126) (f : from ≤ 126) (
   unfolding read_by
   proper_reply confirmation e = confirms refl
   proper_reply (printer.bare function) e =
-      bare (telegram-laws.telegram_reads_back class_of Sd1 (header_with to from function Absent Absent) [] (bare_fine to from t f function e)) e
+      bare (telegram-laws.telegram_reads_back class_of Sd1 (header_with to from function None None) [] (bare_fine to from t f function e)) e
   proper_reply diagnosis e = carries (diagnosis_read to from t f diag v)
   proper_reply (result o) e =
       let c : Content = content.Dpv1Answer (answer_of o) in
@@ -114,7 +111,7 @@ module _ (address : ℕ) (s : List ℕ) where
   by_class class.Data h e = tt
   by_class class.Reserved h e = tt
 
-  by_reading : {r : telegram-type.Reading} → Reads class_of s r → Comes (received_by address s r)
+  by_reading : {r : telegram.Reading} → Reads class_of s r → Comes (received_by address s r)
   by_reading (case.confirmation e) = tt
   by_reading (case.token e x y) = tt
   by_reading (case.telegram {f} {at} {pdu} {dsap} {ssap} starts frames) =

@@ -1,5 +1,5 @@
 -- Every telegram of a download fits in 255 bytes.
-use Rattle.std.specs.Prelude.{ℕ, zero, suc, ◌≤◌, ◌≡◌, Bool, true, List, [], ◌∷◌, length, drop}
+use Rattle.std.specs.Prelude.{ℕ, zero, suc, ◌≤◌, ◌≡◌, Bool, true, List, [], ◌∷◌, length, drop, None}
 use Rattle.std.proofs.Common.{sym, ◌∙◌, subst, arith, length-append, length-drop}
 use Rattle.std.proofs.Math.Seq.{drop-nil}
 use Rattle.octets.specs.Front.{over}
@@ -7,7 +7,6 @@ use Rattle.fdl.proofs.Lemmas.Fields.{sap_small, telegram_length}
 use Rattle.fdl.specs.Writing.{telegram_of}
 use Rattle.fdl.specs.declared.telegram.Format.TheVariants.{Sd1, Sd2}
 use Rattle.fdl.specs.declared.telegram.Header.{Header}
-use Rattle.fdl.specs.declared.telegram.Sap.TheVariants.{Absent}
 use Rattle.access.specs.Route.{header_of, header_with}
 use Rattle.access.specs.declared.table.Service.TheVariants as service
 use Rattle.acyclic.specs.declared.calls.Call.TheVariants as call
@@ -49,7 +48,7 @@ carrying_fits c to from fc part l =
 -- Every new reply of a printer whose diagnosis is not refused has at most 255 bytes.
 pub reply_fits : (diag : List ℕ) (address to : ℕ) (r : Reply) → Valid diag → length (reply_bytes diag address to r) ≤ 255
 reply_fits diag address to confirmation v = omega arith
-reply_fits diag address to (bare function) v = omega (arith, telegram_length (header_with to address function Absent Absent) [] Sd1)
+reply_fits diag address to (bare function) v = omega (arith, telegram_length (header_with to address function None None) [] Sd1)
 reply_fits diag address to diagnosis v = framed_fits (header_of service.SlaveDiag to address reply_code) diag (read_is_tiled diag v.read).short
 reply_fits diag address to (result o) v = carrying_fits (content.Dpv1Answer (answer_of o)) to address reply_code [] (omega arith)
 

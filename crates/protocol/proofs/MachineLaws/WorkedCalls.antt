@@ -1,5 +1,5 @@
 -- Single calls at one printer, computed, and what the laws ask of them: that of the laws there are examples.
-use Rattle.std.specs.Prelude.{ℕ, ◌≡◌, refl, true, false, List, [], ◌∷◌, take, replicate}
+use Rattle.std.specs.Prelude.{ℕ, ◌≡◌, refl, true, false, List, [], ◌∷◌, take, replicate, Some, None}
 use Rattle.std.proofs.Common.{arith}
 use Rattle.octets.specs.Front.{held_behind}
 use Rattle.octets.specs.Part.{part_of}
@@ -10,7 +10,6 @@ use Rattle.fdl.specs.Telegram.{checksum_of}
 use Rattle.fdl.specs.Writing.{core_of, telegram_of}
 use Rattle.fdl.specs.declared.telegram.Format.TheVariants.{Sd1, Sd2}
 use Rattle.fdl.specs.declared.telegram.Header.{Header}
-use Rattle.fdl.specs.declared.telegram.Sap.TheVariants.{Absent, Present}
 use Rattle.access.specs.Route.{kind_of, header_of, header_with, route_of}
 use Rattle.access.specs.Table.{services, look}
 use Rattle.acyclic.specs.Calls as calls
@@ -147,12 +146,12 @@ worked_calls =
 
 -- ---- what the laws ask for
 
-status_calls : Calls idle status_call class.Uncounted (header_with 7 2 0x49 Absent Absent)
+status_calls : Calls idle status_call class.Uncounted (header_with 7 2 0x49 None None)
 unfolding class_of extension_of source_of destination_of fields_of framed_of read_by checksum_of
 status_calls = record { framed = record { format = Sd1; start = 4; len = 0; read = refl; code = refl }; own = refl }
 
 abbrev write_header : Header
-write_header = header_with 7 3 0x5C (Present 51) (Present 51)
+write_header = header_with 7 3 0x5C (Some 51) (Some 51)
 
 write_new : New idle write_from3 write_header
 unfolding class_of extension_of source_of destination_of fields_of framed_of sd2_of read_by checksum_of

@@ -1,7 +1,7 @@
 -- What a telegram is to a printer and what it does to it, in the words of framing, of the classes of function codes and of the
 -- service reader. Of the printer's own definition only the fields of a station stand here, and what a write does to the slots:
 -- so a printer that is defined otherwise is refused by the laws.
-use Rattle.std.specs.Prelude.{ℕ, zero, suc, ◌+◌, ◌%◌, ◌/◌, ◌≤◌, ◌<◌, min, ◌≡◌, Bool, true, false, List, [], ◌∷◌, length}
+use Rattle.std.specs.Prelude.{ℕ, zero, suc, ◌+◌, ◌%◌, ◌/◌, ◌≤◌, ◌<◌, min, ◌≡◌, Bool, true, false, List, [], ◌∷◌, length, Ok, Err, Some}
 use Rattle.octets.specs.Front.{over}
 use Rattle.octets.specs.Part.{part_of}
 use Rattle.octets.specs.declared.Mode.TheVariants as mode
@@ -14,12 +14,10 @@ use Rattle.fdl.specs.declared.reading.Reading.TheVariants as telegram-reading
 use Rattle.fdl.specs.declared.telegram.Format.{Format}
 use Rattle.fdl.specs.declared.telegram.Format.TheVariants.{Sd2}
 use Rattle.fdl.specs.declared.telegram.Header.{Header}
-use Rattle.fdl.specs.declared.telegram.Sap.TheVariants.{Present}
 use Rattle.acyclic.specs.declared.calls.Call.TheVariants as call
 use Rattle.content.specs.declared.fields.Content.{Content}
 use Rattle.content.specs.declared.fields.Content.TheVariants as content
 use Rattle.service.specs.Reading as service
-use Rattle.service.specs.declared.reading.Reading.TheVariants as service-reading
 use Rattle.service.specs.declared.reading.Way.{Way}
 use Rattle.protocol.specs.Slots.{Slots, written}
 use Rattle.protocol.specs.Printer.{Station, Heard}
@@ -36,7 +34,7 @@ pub record Framed (s : List ℕ) (k : Class) (h : Header) : Type 0 where
   pub format : Format
   pub start : ℕ
   pub len : ℕ
-  pub read : telegram.read_of s ≡ telegram-reading.Telegram format h start len
+  pub read : telegram.read_of s ≡ Ok (telegram-reading.Telegram format h start len)
   pub code : class_of h.fc ≡ k
 
 -- the classes of answers, and of calls
@@ -85,7 +83,7 @@ pub record Carries (s : List ℕ) (c : Content) (part : List ℕ) : Type 0 where
   pub way : Way
   pub start : ℕ
   pub len : ℕ
-  pub read : service.read_of s mode.Dpv1 ≡ service-reading.Service format header way c start len
+  pub read : service.read_of s mode.Dpv1 ≡ Ok (record { format = format; header = header; way = way; content = c; start = start; len = len })
   pub bytes : part_of s start len ≡ part
 
 -- an SRD call with this content
@@ -96,7 +94,7 @@ pub record Asks (s : List ℕ) (h : Header) (c : Content) (part : List ℕ) : Ty
 -- an SRD call that is refused with this number
 pub record Fails (s : List ℕ) (h : Header) (k : ℕ) : Type 0 where
   pub srd : Srd h.fc
-  pub read : service.read_of s mode.Dpv1 ≡ service-reading.Refused (record { number = k })
+  pub read : service.read_of s mode.Dpv1 ≡ Err k
 
 -- ---- what is sent: station type 0 in every reply
 
@@ -110,7 +108,7 @@ bare_reply to from function = 0x10 ∷ to ∷ from ∷ function ∷ (to + from +
 -- data as function 8 in SD2, with both access points
 abbrev pub data_reply : (to from dsap ssap : ℕ) → (user : List ℕ) → List ℕ
 data_reply to from dsap ssap user =
-    telegram_of Sd2 (record { da = to; sa = from; fc = 8; dsap = Present dsap; ssap = Present ssap }) user
+    telegram_of Sd2 (record { da = to; sa = from; fc = 8; dsap = Some dsap; ssap = Some ssap }) user
 
 abbrev pub diagnosis_reply : (to from : ℕ) → (diag : List ℕ) → List ℕ
 diagnosis_reply to from diag = data_reply to from 62 60 diag

@@ -1,6 +1,6 @@
 -- What is written for a service reads back.
 use Prim.Native.Nat.{ℕ, ◌+◌, ◌≤◌}
-use Rattle.std.specs.Prelude.{◌≡◌, refl}
+use Rattle.std.specs.Prelude.{◌≡◌, refl, Ok}
 use Rattle.std.proofs.Math.Path.{sym, ap}
 use Rattle.std.proofs.Common.{◌∙◌, arith}
 use mathlib.Core.List.{List, []}
@@ -18,7 +18,6 @@ use Rattle.fdl.specs.Reading as telegram
 use Rattle.fdl.specs.Writing as telegram-writing
 use Rattle.fdl.specs.declared.telegram.Format.{Format}
 use Rattle.fdl.specs.declared.telegram.Header.{Header}
-use Rattle.fdl.specs.declared.reading.Reading as telegram-type
 use Rattle.fdl.specs.declared.reading.Reading.TheVariants as telegram-reading
 use Rattle.access.specs.Laws.{Leads}
 use Rattle.access.proofs.Laws.{header_leads}
@@ -35,9 +34,7 @@ use Rattle.content.specs.declared.fields.Content.{Content}
 use Rattle.service.proofs.Lemmas.Parts.{part_within}
 use Rattle.service.specs.Reading.{placed_at, routed_by, service_in, read_of}
 use Rattle.service.specs.Writing.{header_for, telegram_for, route_verdict, verdict_of, way_by}
-use Rattle.service.specs.declared.reading.Way.{Way}
 use Rattle.service.specs.declared.reading.Way.TheVariants as way
-use Rattle.service.specs.declared.reading.Reading.TheVariants as reading
 
 -- where one verdict comes before another, and the whole is fine, both are
 pub both_fine : (v w : Verdict) → judged fault v w ≡ fine → (v ≡ fine) × (w ≡ fine)
@@ -59,12 +56,12 @@ module _ (f : Format) (h : Header) (u : List ℕ) (e : telegram-writing.verdict_
   abbrev start : ℕ
   start = telegram-writing.user_start f h
 
-  read_again : telegram.read_of whole ≡ telegram-reading.Telegram f h start (length u)
+  read_again : telegram.read_of whole ≡ Ok (telegram-reading.Telegram f h start (length u))
   read_again = telegram-laws.telegram_reads_back class_of f h u e
 
   user_again : part_of whole start (length u) ≡ u
   user_again =
-      ap (λ (r : telegram-type.Reading). user_of (contents_in whole r)) (sym read_again)
+      ap (λ (r : telegram.Reading). user_of (contents_in whole r)) (sym read_again)
       ∙ ap user_of (telegram-laws.reads_back class_of (carried.telegram f h u) e)
 
 -- ---- its service
@@ -77,7 +74,7 @@ module _ (f : Format) (da sa fc : ℕ) (c : Content) (part : List ℕ) (m : Mode
   place_of = telegram-writing.user_start f head + fixed_length c
 
   by_route : (r : Route) → Leads (service_of c) r → route_verdict r c part ≡ fine
-      → routed_by r f head (telegram-writing.user_start f head) (bytes_for c part) m ≡ reading.Service f head (way_by r) c place_of (length part)
+      → routed_by r f head (telegram-writing.user_start f head) (bytes_for c part) m ≡ Ok (record { format = f; header = head; way = way_by r; content = c; start = place_of; len = length part })
   by_route (route.Call s) l v =
       ap (λ (x : Service). placed_at f head way.Call (telegram-writing.user_start f head) (call_of x (bytes_for c part) m)) l
       ∙ ap (placed_at f head way.Call (telegram-writing.user_start f head)) (call_reads_back c part m ident mode v).0
@@ -85,7 +82,7 @@ module _ (f : Format) (da sa fc : ℕ) (c : Content) (part : List ℕ) (m : Mode
       ap (placed_at f head way.Answer (telegram-writing.user_start f head)) (answer_reads_back c part a l ident v).0
   by_route route.Nowhere l v = absurd (fault_fine v)
 
-  pub back : verdict_of f da sa fc c part ≡ fine → read_of (telegram_for f da sa fc c part) m ≡ reading.Service f head (way_by (route_of head)) c place_of (length part)
+  pub back : verdict_of f da sa fc c part ≡ fine → read_of (telegram_for f da sa fc c part) m ≡ Ok (record { format = f; header = head; way = way_by (route_of head); content = c; start = place_of; len = length part })
   unfolding verdict_of telegram_for read_of
   back e =
       let u : List ℕ = bytes_for c part in

@@ -1,6 +1,6 @@
 -- Data that were written to their place in a telegram, and the telegram that was made around them.
 use Prim.Native.Nat.{ℕ, ◌+◌, ◌-◌, ◌≤◌, ◌<◌}
-use Rattle.std.specs.Prelude.{◌≡◌, true, leb}
+use Rattle.std.specs.Prelude.{◌≡◌, true, leb, Ok, Err}
 use Rattle.std.proofs.Math.Path.{refl, ap}
 use Rattle.std.proofs.Common.{sym, ◌∙◌, add-zero, take-append-drop, le-leb}
 use mathlib.Core.List.{List, [], ◌∷◌, append-nil}
@@ -9,10 +9,8 @@ use Rattle.std.proofs.Math.ListN.{length}
 use borrow.Rule.Slice.PartMut.{mid_of, put_mid}
 use Rattle.std.proofs.lemmas.Bool.{lt-leb}
 use Rattle.octets.proofs.Choice.{by_pick}
-use Rattle.octets.specs.Front.{Verdict, fine, fault, AtFront, over, answer_by, held_by, held_behind}
+use Rattle.octets.specs.Front.{Verdict, fine, fault, AtFront, over, answer_by, held_by, held_behind, Written}
 use Rattle.octets.proofs.Front.{held_length, lent_length, all_behind, covered, stored, too_small}
-use Rattle.octets.specs.declared.Written.{Written}
-use Rattle.octets.specs.declared.Written.TheVariants.{Stored, Refused}
 use Rattle.fdl.specs.Around.{user_in, good_fields}
 use Rattle.fdl.specs.Writing as telegram
 use Rattle.fdl.proofs.Lemmas.Around.{Fit, fit, user_held}
@@ -44,18 +42,18 @@ none_held (x ∷ d) l e = let no : length l < length (x ∷ d) = omega arith in 
 
 -- ---- answers of the data's writer
 
-refused_stored : {k n : ℕ} → Refused k ≡ Stored n → ⊥
+refused_stored : {k n : ℕ} → Err k ≡ Ok n → ⊥
 refused_stored e = let z : ◌≡◌ {A = ℕ} 0 1 = cc in omega arith
 
 abbrev count_in : Written → ℕ
-count_in (Stored n) = n
-count_in (Refused k) = 0
+count_in (Ok n) = n
+count_in (Err k) = 0
 
-no_room_fine : (d : List ℕ) (room : ℕ) → no_room (answer_by fine d room) ≡ Refused 11
+no_room_fine : (d : List ℕ) (room : ℕ) → no_room (answer_by fine d room) ≡ Err 11
 unfolding answer_by
-no_room_fine d room = by_pick (λ (w : Written). no_room w ≡ Refused 11) (leb (length d) room) (λ _. refl) (λ _. refl)
+no_room_fine d room = by_pick (λ (w : Written). no_room w ≡ Err 11) (leb (length d) room) (λ _. refl) (λ _. refl)
 
-all_fits : (d l : List ℕ) → length d ≤ length l → (answer_by fine d (length l) ≡ Stored (length d)) × (held_by fine d l ≡ over d l)
+all_fits : (d l : List ℕ) → length d ≤ length l → (answer_by fine d (length l) ≡ Ok (length d)) × (held_by fine d l ≡ over d l)
 unfolding answer_by held_by
 all_fits d l h = (simp (le-leb _ _ h), simp (le-leb _ _ h))
 
@@ -70,7 +68,7 @@ module _ (f : Format) (h : Header) (d out : List ℕ) (v : Verdict) where
 
 -- data that are refused leave everything as it was
 module _ (f : Format) (h : Header) (d out : List ℕ) where
-  refused_data : (k n : ℕ) {m : List ℕ} → n ≤ length out → m ≡ held_by (fault k) d (lent_of n out) → Outcome f h d out (fault k) (Refused k) (back_in n out m)
+  refused_data : (k n : ℕ) {m : List ℕ} → n ≤ length out → m ≡ held_by (fault k) d (lent_of n out) → Outcome f h d out (fault k) (Err k) (back_in n out m)
   unfolding answer_by held_by
   refused_data k n i e = (refl, ap (back_in n out) e ∙ kept n out i)
 
@@ -97,20 +95,20 @@ module _ (f : Format) (h : Header) (d out : List ℕ) (start : ℕ) (place : sta
 
   stored_all : start + length d + 2 ≤ length out →
       let l = lent_of (start) out in
-      (answer_by fine d (length l) ≡ Stored (length d)) × (held_by fine d l ≡ over d l)
+      (answer_by fine d (length l) ≡ Ok (length d)) × (held_by fine d l ≡ over d l)
   stored_all room = all_fits d (lent_of (start) out) (lent_fits room)
 
   -- room, and the data refused
   pub data_refused : (v : Verdict) {k : ℕ} {m : List ℕ} → start + length d + 2 ≤ length out
-      → Refused k ≡ answer_by v d (length (lent_of (start) out)) → m ≡ held_by v d (lent_of (start) out)
-      → Outcome f h d out v (Refused k) (back_in (start) out m)
+      → Err k ≡ answer_by v d (length (lent_of (start) out)) → m ≡ held_by v d (lent_of (start) out)
+      → Outcome f h d out v (Err k) (back_in (start) out m)
   unfolding answer_by
   data_refused fine room a b = absurd (refused_stored (a ∙ (stored_all room).0))
   data_refused (fault j) room a b = rw a (refused_data f h d out j start (omega arith) b)
 
   -- room, and the data stored: the telegram is made around them
   pub data_stored : (v : Verdict) {n : ℕ} {m after : List ℕ} {r : Written} → good_fields f h (length d) ≡ true → start + length d + 2 ≤ length out
-      → Stored n ≡ answer_by v d (length (lent_of (start) out)) → m ≡ held_by v d (lent_of (start) out)
+      → Ok n ≡ answer_by v d (length (lent_of (start) out)) → m ≡ held_by v d (lent_of (start) out)
       → let placed = back_in (start) out m in
       r ≡ answer_by (telegram.verdict_of f h (user_in f h n placed)) (telegram.telegram_of f h (user_in f h n placed)) (length placed)
       → after ≡ held_by (telegram.verdict_of f h (user_in f h n placed)) (telegram.telegram_of f h (user_in f h n placed)) placed

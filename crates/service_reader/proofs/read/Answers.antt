@@ -6,7 +6,9 @@ use native.Mathlib.Omega.{arith}
 use lib.Dec.{leb}
 use lib.ListN.{length}
 use borrow.Author.Tests.{leb-true}
+use Rattle.std.specs.Prelude.{Ok}
 use Rattle.octets.proofs.Choice.{by_pick}
+use Rattle.octets.proofs.Refusals.{handed_on}
 use Rattle.octets.specs.Part.{part_of}
 use Rattle.octets.proofs.PartLaws.{part_short}
 use Rattle.fdl.specs.Reading as telegram
@@ -27,15 +29,15 @@ routed-requires c =
     let s = c.args.bytes.now in
     let t = c.in-Telegram in
     let e = ap length c.part-user.ensures in
-    ((said (telegram.read_of s) (sym t.ensures)).1, omega (arith, e, ends s t.start t.len 18446744073709551615 (omega arith) (omega arith)))
+    ((said (telegram.read_of s) (sym (ap Ok (sym t.is) ∙ c.in_ok-telegram.ensures))).1, omega (arith, e, ends s t.start t.len 18446744073709551615 (omega arith) (omega arith)))
 
 pub returns-in-Confirmation : goal.returns-in-Confirmation
 unfolding read_of
-returns-in-Confirmation c = simp (said (telegram.read_of c.args.bytes.now) (sym c.in-Confirmation.ensures))
+returns-in-Confirmation c = simp (said (telegram.read_of c.args.bytes.now) (sym (ap Ok (sym c.in-Confirmation.is) ∙ c.in_ok-telegram.ensures)))
 
 pub returns-in-Token : goal.returns-in-Token
 unfolding read_of
-returns-in-Token c = simp (said (telegram.read_of c.args.bytes.now) (sym c.in-Token.ensures))
+returns-in-Token c = simp (said (telegram.read_of c.args.bytes.now) (sym (ap Ok (sym c.in-Token.is) ∙ c.in_ok-telegram.ensures)))
 
 pub returns-in-Telegram : goal.returns-in-Telegram
 unfolding read_of
@@ -43,8 +45,9 @@ returns-in-Telegram c =
     let a = c.args in
     let t = c.in-Telegram in
     c.routed.ensures ∙ ap (λ (u : List ℕ). routed_by (route_of t.header) t.format t.header t.start u a.mode) c.part-user.ensures
-    ∙ sym (ap (service_in a.bytes.now a.mode) (said (telegram.read_of a.bytes.now) (sym t.ensures)).0)
+    ∙ sym (ap (service_in a.bytes.now a.mode) (said (telegram.read_of a.bytes.now) (sym (ap Ok (sym t.is) ∙ c.in_ok-telegram.ensures))).0)
 
-pub returns-in-Refused : goal.returns-in-Refused
+pub returns-in_err-telegram : goal.returns-in_err-telegram
 unfolding read_of
-returns-in-Refused c = simp (said (telegram.read_of c.args.bytes.now) (sym c.in-Refused.ensures))
+returns-in_err-telegram c =
+    handed_on _ _ c.from_residual.ensures ∙ simp (said (telegram.read_of c.args.bytes.now) (sym c.in_err-telegram.ensures))

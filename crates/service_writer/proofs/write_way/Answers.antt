@@ -1,5 +1,6 @@
 -- `service_writer::write_way` meets its contract: the data are refused, or stand where the telegram has them.
-use mathlib.Core.Path.{◌≡◌, refl, sym, ◌∙◌}
+use Rattle.std.specs.Prelude.{Result}
+use mathlib.Core.Path.{◌≡◌, refl, sym, ap, ◌∙◌}
 use mathlib.Core.Bool.{true}
 use mathlib.Core.List.{List}
 use Prim.Native.Nat.{ℕ, ◌≤◌, ◌<◌}
@@ -8,12 +9,15 @@ use lib.Dec.{ltb}
 use lib.ListN.{length}
 use borrow.Author.Tests.{lt-ltb, le-ltb, ltb-false}
 use Rattle.octets.specs.Choice.{pick}
+use Rattle.octets.specs.Refusals.{told}
+use Rattle.octets.specs.declared.refusal.Refusal.{Refusal}
+use Rattle.octets.proofs.Refusals.{handed_on}
 use Rattle.octets.proofs.Choice.{by_pick}
 use Rattle.fdl.specs.Around.{good_fields}
 use Rattle.fdl.proofs.Lemmas.Around.{Fit, fit}
 use Rattle.content.proofs.Laws.{bytes_long}
 use Rattle.content.specs.Writing.{bytes_for}
-use Rattle.service.specs.Writing.{way_verdict}
+use Rattle.service.specs.Writing.{way_verdict, no_room}
 use Rattle.service.proofs.Lemmas.Placed.{without_room, data_refused, data_stored}
 use Rattle.service_writer.proofs.write_way.Goals as goal
 
@@ -50,6 +54,7 @@ slice_bounds-write_data-count c = inside c.user_start-start.result c.lent_from-f
 pub slice_bounds-write_data-start : goal.slice_bounds-write_data-start
 slice_bounds-write_data-start c = omega (arith, slice_bounds-write_data-count c)
 
+-- no room for the telegram, and the data are not refused
 pub returns-then-room-whole : goal.returns-then-room-whole
 returns-then-room-whole c =
     let data_at : List ℕ = bytes_for c.args.content c.args.part.now in
@@ -61,26 +66,43 @@ returns-then-room-whole c =
     without_room a.format a.header data_at a.out.now (way_verdict a.way a.content a.part.now) good (omega (arith, sized, c.user_start-start.ensures, c.if-room-whole.true)) (rw e at c.write_data-written.ensures.answer)
     (rw e at c.write_data-written.ensures.bytes)
     in
-    record { answer = c.no_room.ensures ∙ o.0; bytes = rw e o.1 }
+    record { answer = sym (ap (λ (w : Result ℕ Refusal). no_room (told w)) c.in_ok-written.was) ∙ o.0; bytes = rw e o.1 }
 
-pub returns-in-Stored : goal.returns-in-Stored
-returns-in-Stored c =
+-- no room for the telegram, and the data are refused
+pub returns-in_err-written : goal.returns-in_err-written
+returns-in_err-written c =
+    let data_at : List ℕ = bytes_for c.args.content c.args.part.now in
+    let sized : length data_at ≡ c.args.len = bytes_long c.args.content c.args.part.now ∙ sym c.requires.0 in
+    let good : good_fields c.args.format c.args.header (length data_at) ≡ true = rw sized c.requires.1 in
+    let a = c.args in
+    let e = at_end c.user_start-start.result c.lent_from-from.ensures c.if-room-whole.true in
+    let o =
+    without_room a.format a.header data_at a.out.now (way_verdict a.way a.content a.part.now) good (omega (arith, sized, c.user_start-start.ensures, c.if-room-whole.true)) (rw e at c.write_data-written.ensures.answer)
+    (rw e at c.write_data-written.ensures.bytes)
+    in
+    record {
+      answer = handed_on _ _ c.from_residual.ensures ∙ sym (ap (λ (w : Result ℕ Refusal). no_room (told w)) c.in_err-written.was) ∙ o.0;
+      bytes = rw e o.1;
+    }
+
+pub returns : goal.returns
+returns c =
     let data_at : List ℕ = bytes_for c.args.content c.args.part.now in
     let sized : length data_at ≡ c.args.len = bytes_long c.args.content c.args.part.now ∙ sym c.requires.0 in
     let good : good_fields c.args.format c.args.header (length data_at) ≡ true = rw sized c.requires.1 in
     let a = c.args in
     let e = at_place c.user_start-start.result c.lent_from-from.ensures c.if-room-whole.false in
-    let told = data_stored a.format a.header data_at a.out.now c.user_start-start.result c.user_start-start.ensures
-    (way_verdict a.way a.content a.part.now) good (omega (arith, sized, c.if-room-whole.false)) (sym c.in-Stored.is ∙ rw e at c.write_data-written.ensures.answer) (rw e at c.write_data-written.ensures.bytes)
+    let o = data_stored a.format a.header data_at a.out.now c.user_start-start.result c.user_start-start.ensures
+    (way_verdict a.way a.content a.part.now) good (omega (arith, sized, c.if-room-whole.false)) (sym (ap told c.in_ok-stored.was) ∙ rw e at c.write_data-written.ensures.answer) (rw e at c.write_data-written.ensures.bytes)
     (rw e at c.write_around.ensures.answer) (rw e at c.write_around.ensures.bytes) in
-    record { answer = told.0; bytes = told.1 }
+    record { answer = o.0; bytes = o.1 }
 
-pub returns-in-Refused : goal.returns-in-Refused
-returns-in-Refused c =
+pub returns-in_err-stored : goal.returns-in_err-stored
+returns-in_err-stored c =
     let data_at : List ℕ = bytes_for c.args.content c.args.part.now in
     let sized : length data_at ≡ c.args.len = bytes_long c.args.content c.args.part.now ∙ sym c.requires.0 in
     let a = c.args in
     let e = at_place c.user_start-start.result c.lent_from-from.ensures c.if-room-whole.false in
-    let told = (data_refused a.format a.header data_at a.out.now c.user_start-start.result c.user_start-start.ensures
-    (way_verdict a.way a.content a.part.now) (omega (arith, sized, c.if-room-whole.false)) (sym c.in-Refused.is ∙ rw e at c.write_data-written.ensures.answer) (rw e at c.write_data-written.ensures.bytes)) in
-    record { answer = told.0; bytes = rw e told.1 }
+    let o = data_refused a.format a.header data_at a.out.now c.user_start-start.result c.user_start-start.ensures
+    (way_verdict a.way a.content a.part.now) (omega (arith, sized, c.if-room-whole.false)) (sym (ap told c.in_err-stored.was) ∙ rw e at c.write_data-written.ensures.answer) (rw e at c.write_data-written.ensures.bytes) in
+    record { answer = handed_on _ _ c.from_residual-in_err-stored.ensures ∙ o.0; bytes = rw e o.1 }

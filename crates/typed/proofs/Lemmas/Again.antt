@@ -1,5 +1,5 @@
 -- From the bytes of a value to the value and back.
-use Rattle.std.specs.Prelude.{ℕ, ◌+◌, ◌≤◌, ◌<◌, ◌^◌, ◌≡◌, refl, Bool, true, false, not, List, ◌∷◌, length, get_or, drop, eqb, leb, ℤ}
+use Rattle.std.specs.Prelude.{ℕ, ◌+◌, ◌≤◌, ◌<◌, ◌^◌, ◌≡◌, refl, Bool, true, false, not, List, ◌∷◌, length, get_or, drop, eqb, leb, ℤ, Ok, Err}
 use Rattle.std.proofs.Common.{sym, ap, ap₂, ◌∙◌, arith, zero-add, length-drop, drop-cons, get_or-drop}
 use Rattle.std.specs.Float.{binary32}
 use Rattle.std.specs.Float.Ieee.{of_bits}
@@ -17,11 +17,9 @@ use Rattle.float.specs.Float.{is_nan_pattern, floating_of}
 use Rattle.float.proofs.Float.{pattern_back, known}
 use Rattle.float.specs.declared.Floating.{Floating}
 use Rattle.typed.specs.Value.{Size, one, two, four, bits_of, Kind, boolean, signed, unsigned, floating, code_in, kind_of, width_in, width_of, kind_in, boolean_byte, pattern_in, signed_value, unsigned_value, floating_value, value_of}
-use Rattle.typed.specs.Reading.{good_code, good_boolean, read_of}
+use Rattle.typed.specs.Reading.{good_code, good_boolean, read_of, Reading}
 use Rattle.typed.specs.Writing.{verdict_of, bytes_for}
 use Rattle.typed.specs.declared.value.Value.{Value}
-use Rattle.typed.specs.declared.reading.Reading.{Reading}
-use Rattle.typed.specs.declared.reading.Reading.TheVariants.{Value as Read, Refused}
 
 -- ---- codes
 
@@ -103,8 +101,8 @@ single s h = sym (zero-add (get_or s 1 0)) ∙ ap number_of (sym (rest_elements 
 
 module _ (s : List ℕ) (all : Bytes s) where
   abbrev pub Again : Reading → Type 0
-  Again (Read v) = (verdict_of v ≡ fine) × (pattern_in v ≡ number_of (drop 1 s)) × (bytes_for v ≡ s)
-  Again (Refused r) = Unit
+  Again (Ok v) = (verdict_of v ≡ fine) × (pattern_in v ≡ number_of (drop 1 s)) × (bytes_for v ≡ s)
+  Again (Err r) = Unit
 
   abbrev code : ℕ
   code = get_or s 0 0

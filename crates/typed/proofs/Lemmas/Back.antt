@@ -1,5 +1,5 @@
 -- From a value to its bytes and back.
-use Rattle.std.specs.Prelude.{ℕ, ◌<◌, ◌^◌, ◌≡◌, refl, true, false, not, ℤ}
+use Rattle.std.specs.Prelude.{ℕ, ◌<◌, ◌^◌, ◌≡◌, refl, true, false, not, ℤ, Ok}
 use Rattle.std.proofs.Common.{ap, ap₂, ◌∙◌, lit<, to_z-of_z}
 use Rattle.std.specs.Float.{binary32}
 use Rattle.std.specs.Float.Ieee.{is_nan}
@@ -19,7 +19,6 @@ use Rattle.typed.specs.Reading.{read_of}
 use Rattle.typed.specs.Writing.{verdict_of, bytes_for}
 use Rattle.typed.specs.declared.value.Value.{Value}
 use Rattle.typed.specs.declared.value.Value.TheVariants.{Boolean, I8, I16, I32, U8, U16, U32, Float, Nan}
-use Rattle.typed.specs.declared.reading.Reading.TheVariants.{Value as Read}
 
 -- each kind is that of its code
 pub kind_back : (k : Kind) → kind_of (code_in k) ≡ k
@@ -65,7 +64,7 @@ value_back (Float x) r e = ap floating_value (number_back x r (passed 12 (is_nan
 value_back (Nan n) r e = simp (not-false (is_nan_pattern n) (passed 12 (not (is_nan_pattern n)) fine e).0)
 
 -- its bytes pass every test of the reader
-accepted : (v : Value) → read_of (bytes_for v) ≡ Read (value_of (kind_of (code_of v)) (number_of (bytes_of (width_in (kind_in v)) (pattern_in v))))
+accepted : (v : Value) → read_of (bytes_for v) ≡ Ok (value_of (kind_of (code_of v)) (number_of (bytes_of (width_in (kind_in v)) (pattern_in v))))
 unfolding kind_of read_of
 accepted (Boolean true) = refl
 accepted (Boolean false) = refl
@@ -78,8 +77,8 @@ accepted (U32 n) = refl
 accepted (Float x) = refl
 accepted (Nan n) = refl
 
-pub back : (v : Value) → InRange v → verdict_of v ≡ fine → read_of (bytes_for v) ≡ Read v
+pub back : (v : Value) → InRange v → verdict_of v ≡ fine → read_of (bytes_for v) ≡ Ok v
 back v r e =
     accepted v
-    ∙ ap₂ (λ (k : Kind) (n : ℕ). Read (value_of k n)) (kind_back (kind_in v)) (number_bytes (width_in (kind_in v)) (pattern_in v) (pattern_small v r))
-    ∙ ap Read (value_back v r e)
+    ∙ ap₂ (λ (k : Kind) (n : ℕ). Ok (value_of k n)) (kind_back (kind_in v)) (number_bytes (width_in (kind_in v)) (pattern_in v) (pattern_small v r))
+    ∙ ap Ok (value_back v r e)

@@ -1,20 +1,20 @@
 -- `book_reader::templates::listed` meets its contract. Where the table stands in the bytes, it has the slot and the lengths.
+use Rattle.std.specs.Prelude.{Ok}
 use mathlib.Core.Path.{◌≡◌, ap, ◌∙◌}
 use mathlib.Core.List.{List}
 use Prim.Native.Nat.{ℕ, ◌+◌, ◌-◌, ◌*◌, ◌≤◌}
 use native.Mathlib.Omega.{arith}
 use lib.ListN.{get_or, take}
-use borrow.Author.Tests.{lt-ltb, le-ltb}
+use borrow.Author.Tests.{le-ltb}
 use Rattle.book.specs.Table.{every_second, sum_of}
 use Rattle.book.specs.Reading.{counted, slots_of, lengths_of}
 use Rattle.book.specs.Template.{entry_at, listed_of}
 use Rattle.book.proofs.Lemmas.Pairs.{second_at, second_take}
-use Rattle.book.specs.declared.answers.Template.TheVariants.{Is}
 use Rattle.book_reader.proofs.templates.listed.Goals as goal
 
 -- template k by the bytes of the whole
 entry_at_lem : (s : List ℕ) (k : ℕ) → 1 ≤ k → k ≤ counted s
-    → entry_at s (k - 1) ≡ Is (get_or s (2 * k - 1) 0) (1 + 2 * counted s + sum_of (every_second (k - 1) 2 s)) (get_or s (2 * k) 0)
+    → entry_at s (k - 1) ≡ Ok (record { slot = get_or s (2 * k - 1) 0; start = 1 + 2 * counted s + sum_of (every_second (k - 1) 2 s); len = get_or s (2 * k) 0 })
 unfolding entry_at
 entry_at_lem s k some most =
     let m : ℕ = counted s in
@@ -24,41 +24,6 @@ entry_at_lem s k some most =
     let len : get_or (lengths_of s) (k - 1) 0 ≡ get_or s (2 * k) 0 = second_at m (k - 1) 2 s (omega arith) ∙ ap (λ (j : ℕ). get_or s j 0) next in
     let before : take (k - 1) (lengths_of s) ≡ every_second (k - 1) 2 s = second_take m (k - 1) 2 s (omega arith) in
     simp (slot, len, before)
-
-pub returns-then-bytes-lt1 : goal.returns-then-bytes-lt1
-unfolding listed_of
-returns-then-bytes-lt1 c = simp (lt-ltb _ _ c.if-bytes-lt1.true)
-
-pub overflow_cast-count : goal.overflow_cast-count
-overflow_cast-count c = omega (arith, c.type_inv.bytes 0)
-
-pub returns-then-k-lt1 : goal.returns-then-k-lt1
-unfolding listed_of
-returns-then-k-lt1 c = simp (le-ltb _ _ c.if-bytes-lt1.false, lt-ltb _ _ c.if-k-lt1.true)
-
-pub returns-then-count-k : goal.returns-then-count-k
-unfolding listed_of
-returns-then-count-k c =
-    simp (le-ltb _ _ c.if-bytes-lt1.false, le-ltb _ _ c.if-k-lt1.false, lt-ltb _ _ c.if-count-k.true)
-
-pub returns-then-count-gt16 : goal.returns-then-count-gt16
-unfolding listed_of
-returns-then-count-gt16 c =
-    simp (le-ltb _ _ c.if-bytes-lt1.false, le-ltb _ _ c.if-k-lt1.false, le-ltb _ _ c.if-count-k.false, lt-ltb _ _ c.if-count-gt16.true)
-
-pub returns-then-bytes-count : goal.returns-then-bytes-count
-unfolding listed_of
-returns-then-bytes-count c =
-    simp (
-      le-ltb _ _ c.if-bytes-lt1.false,
-      le-ltb _ _ c.if-k-lt1.false,
-      le-ltb _ _ c.if-count-k.false,
-      le-ltb _ _ c.if-count-gt16.false,
-      lt-ltb _ _ c.if-bytes-count.true,
-    )
-
-pub overflow_cast-result : goal.overflow_cast-result
-overflow_cast-result c = omega (arith, c.type_inv.bytes (2 * c.args.k))
 
 pub returns : goal.returns
 unfolding listed_of

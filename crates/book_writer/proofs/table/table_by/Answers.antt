@@ -1,50 +1,43 @@
--- `book_writer::table::table_by` meets its contract. The loop's invariant is that of a table that is judged, over what is left of the lists.
+-- `book_writer::table::table_by` meets its contract. The loop's invariant is that of a table that is judged, over what the iterator has left.
 use mathlib.Core.Path.{◌≡◌, ap}
-use mathlib.Core.List.{List, ◌∷◌}
-use Prim.Native.Nat.{ℕ, ◌+◌, ◌<◌}
 use mathlib.Core.Bool.{not}
 use native.Mathlib.Omega.{arith}
-use native.Mathlib.Numerals.{add-one}
-use lib.ListN.{length, get_or, drop}
-use lib.Seq.{drop-cons, drop-length}
-use Rattle.book.specs.Table.{table_of}
-use Rattle.book.proofs.Lemmas.Running.{Running, begins, goes, breaks, done}
-use Rattle.book.specs.declared.table.Table.{Table}
-use Rattle.book.specs.declared.table.Table.TheVariants.{Total}
+use lib.ListN.{length}
+use borrow.Author.Rules.{rules}
+use Rattle.std.specs.Iterator.Adapters.{zip_first, zip_second}
+use Rattle.std.specs.Slice.Iter.{iter_rest}
+use Rattle.std.proofs.lemmas.Iterator.{empty_from_Zip}
+use Rattle.std.proofs.lemmas.List.{length_push}
+use Rattle.book.proofs.Lemmas.Running.{begins, goes, breaks, done}
 use Rattle.book_writer.proofs.table.table_by.Goals as goal
 
--- the pairs of slots and lengths
-module _ {whole : Table} {k least total : ℕ} (slots lengths : List ℕ) (same : length lengths ≡ length slots) where
-  next_by_lem : k < length slots → Running whole k least total (drop k slots) (drop k lengths)
-      → Running whole k least total (get_or slots k 0 ∷ drop (k + 1) slots) (get_or lengths k 0 ∷ drop (k + 1) lengths)
-  next_by_lem h r = let g : k < length lengths = omega arith in rw (add-one k) (rw (drop-cons slots k 0 h, drop-cons lengths k 0 g) at r)
+pub loop-slot-init : goal.loop-slot-init
+loop-slot-init c =
+    let first : iter_rest (zip_first c.into_iter-slot-iterator.result) ≡ c.args.slots.now = search rules in
+    let second : iter_rest (zip_second c.into_iter-slot-iterator.result) ≡ c.args.lengths.now = search rules in
+    rw (first, second) (omega arith, omega arith, begins _ _)
 
-  none_by : k ≡ length slots → Running whole k least total (drop k slots) (drop k lengths) → Total total ≡ whole
-  none_by h r = done (rw (h, drop-length slots) at r)
+-- it is good: the invariant holds again, and has the bound for the next least
+pub loop-slot-preserved : goal.loop-slot-preserved
+loop-slot-preserved c =
+    let l = c.loop-slot in
+    let z = c.in-Some.ensures.steps in
+    let next = goes (rw (z.0, z.1) at l.invariant.2) c.good_pair.ensures (ap not c.if-not-good_pair.false) in
+    (rw length_push (omega (arith, ap length z.0)), omega (arith, ap length z.0, ap length z.1), rw length_push next)
 
--- it is good: the invariant holds again, and has the bounds for what is added
-pub loop-k-preserved : goal.loop-k-preserved
-loop-k-preserved c =
-    let here : let l = c in let slots = l.args.slots.now in let lengths = l.args.lengths.now in let k = l.loop-k.k in Running (table_of 0 0 slots lengths) k l.loop-k.least l.loop-k.total (get_or slots k 0 ∷ drop (k + 1) slots) (get_or lengths k 0 ∷ drop (k + 1) lengths) = next_by_lem c.args.slots.now c.args.lengths.now c.requires.1 c.loop-k-test.true c.loop-k.invariant.1 in
-    (omega arith, goes here c.good_pair.ensures (ap not c.if-not-good_pair.false))
-
-pub loop-k-init : goal.loop-k-init
-loop-k-init c = (omega arith, begins _ _)
+pub overflow_add-least : goal.overflow_add-least
+overflow_add-least c =
+    let z = c.in-Some.ensures.steps in
+    let next = goes (rw (z.0, z.1) at c.loop-slot.invariant.2) c.good_pair.ensures (ap not c.if-not-good_pair.false) in
+    omega (arith, next.low)
 
 pub returns-then-not-good_pair : goal.returns-then-not-good_pair
 returns-then-not-good_pair c =
-    let here : let l = c in let slots = l.args.slots.now in let lengths = l.args.lengths.now in let k = l.loop-k.k in Running (table_of 0 0 slots lengths) k l.loop-k.least l.loop-k.total (get_or slots k 0 ∷ drop (k + 1) slots) (get_or lengths k 0 ∷ drop (k + 1) lengths) = next_by_lem c.args.slots.now c.args.lengths.now c.requires.1 c.loop-k-test.true c.loop-k.invariant.1 in
-    breaks here c.good_pair.ensures (ap not c.if-not-good_pair.true)
-
-pub overflow_add-least : goal.overflow_add-least
-overflow_add-least c = omega (arith, (loop-k-preserved c).1.low)
-
-pub overflow_cast-total : goal.overflow_cast-total
-overflow_cast-total c = omega (arith, (loop-k-preserved c).1.small)
-
-pub overflow_add-total : goal.overflow_add-total
-overflow_add-total c = omega (arith, (loop-k-preserved c).1.small)
+    let z = c.in-Some.ensures.steps in
+    breaks (rw (z.0, z.1) at c.loop-slot.invariant.2) c.good_pair.ensures (ap not c.if-not-good_pair.true)
 
 pub returns : goal.returns
 returns c =
-    none_by c.args.slots.now c.args.lengths.now c.requires.1 (omega arith) c.loop-k.invariant.1
+    let l = c.loop-slot in
+    let e = empty_from_Zip l.slot-iterator c.next.new.self c.next.result c.in-None.is c.next.ensures.steps (omega arith) in
+    done (rw (e.0, e.1) at l.invariant.2)

@@ -7,22 +7,6 @@ use Rattle.configuration.specs.Writing.{good_side, side_byte, either_side}
 use Rattle.configuration.proofs.Lemmas.Sides.{present_small, side_byte_small, either_good, wider}
 use Rattle.configuration_writer.proofs.writing.general_byte.Goals as goal
 
-pub overflow_mul-result : goal.overflow_mul-result
-overflow_mul-result c =
-    let input : c.present.result ≤ 1 = omega (arith, present_small c.args.input) in
-    omega (arith, input)
-
-pub overflow_mul-result-2 : goal.overflow_mul-result-2
-overflow_mul-result-2 c =
-    let output : c.present-2.result ≤ 1 = omega (arith, present_small c.args.output) in
-    omega (arith, output)
-
-pub overflow_add-result : goal.overflow_add-result
-overflow_add-result c =
-    let input : c.present.result ≤ 1 = omega (arith, present_small c.args.input) in
-    let output : c.present-2.result ≤ 1 = omega (arith, present_small c.args.output) in
-    omega (arith, input, output)
-
 pub side_byte-requires : goal.side_byte-requires
 side_byte-requires c =
     let good : good_side 16 (either_side c.args.input c.args.output) ≡ true = either_good _ _ c.requires in
@@ -35,8 +19,3 @@ overflow_add-result-2 c =
     let good : good_side 16 (either_side c.args.input c.args.output) ≡ true = either_good _ _ c.requires in
     let side : let a = c.args in c.side_byte.result ≡ side_byte (either_side a.input a.output) = c.side_byte.ensures ∙ ap side_byte c.either-side.ensures in
     omega (arith, input, output, side_byte_small 16 (either_side c.args.input c.args.output) (omega arith) good, side)
-
-pub returns : goal.returns
-returns c =
-    let side : let a = c.args in c.side_byte.result ≡ side_byte (either_side a.input a.output) = c.side_byte.ensures ∙ ap side_byte c.either-side.ensures in
-    rw (c.present.ensures, c.present-2.ensures, side)

@@ -1,5 +1,4 @@
 -- `content::fields::fixed_length` meets its contract: each content has its length.
-use borrow.Author.Rules.{rules}
 use Rattle.content.proofs.fields.fixed_length.Goals as goal
 
 pub returns-in-SetPrm : goal.returns-in-SetPrm

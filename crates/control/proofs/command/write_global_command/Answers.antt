@@ -2,28 +2,11 @@
 use mathlib.Core.Path.{◌≡◌, sym, ap, ◌∙◌}
 use mathlib.Core.Bool.{not}
 use native.Mathlib.Omega.{arith}
-use borrow.Author.Tests.{eq-eqb, ne_eqb}
+use borrow.Author.Tests.{eq-eqb}
 use Rattle.octets.specs.Front.{fine}
-use Rattle.octets.proofs.Front.{refused, too_small, both_written}
-use Rattle.control.specs.Command.{verdict_of, verdict_for, bytes_for}
+use Rattle.octets.proofs.Front.{both_written}
+use Rattle.control.specs.Command.{verdict_of, verdict_for}
 use Rattle.control.proofs.command.write_global_command.Goals as goal
-
-pub returns-then-size-ne2 : goal.returns-then-size-ne2
-unfolding verdict_of
-returns-then-size-ne2 c =
-    record { answer = simp (ne_eqb _ _ c.if-size-ne2.true) ((refused 20 _ _).0); bytes = simp (ne_eqb _ _ c.if-size-ne2.true) ((refused 20 _ _).1) }
-
-pub returns-then-not-good_command : goal.returns-then-not-good_command
-unfolding verdict_of
-returns-then-not-good_command c =
-    record { answer = simp (eq-eqb _ _ c.if-size-ne2.false, ap not (sym c.good_command.ensures ∙ c.if-not-good_command.true)) ((refused 21 _ _).0); bytes = simp (eq-eqb _ _ c.if-size-ne2.false, ap not (sym c.good_command.ensures ∙ c.if-not-good_command.true)) ((refused 21 _ _).1) }
-
-pub returns-then-out-size : goal.returns-then-out-size
-unfolding verdict_of
-returns-then-out-size c =
-    let passed : let a = c.args in verdict_for a.fields a.rest.now ≡ fine = simp (eq-eqb _ _ c.if-size-ne2.false, ap not (sym c.good_command.ensures ∙ c.if-not-good_command.false)) in
-    let small = too_small (bytes_for c.args.fields c.args.rest.now) c.args.out.now (omega arith) in
-    record { answer = rw passed small.0; bytes = rw passed small.1 }
 
 pub returns : goal.returns
 unfolding verdict_of

@@ -19,36 +19,6 @@ use Rattle.protocol.specs.Controller.{acted}
 use Rattle.controller.proofs.Written.{unsent, placed_short, placed_sent}
 use Rattle.controller.proofs.requests.put_body.Goals as goal
 
-pub overflow_add-start : goal.overflow_add-start
-overflow_add-start c =
-    let data_at : List ℕ = bytes_for (content.Dpv1Call (call.Write 1 c.args.index)) c.args.body.now in
-    let header_at : Header = c.header_of-header.result in
-    let sized : length data_at ≡ 4 + length c.args.body.now = bytes_long (content.Dpv1Call (call.Write 1 c.args.index)) c.args.body.now in
-    let good : good_fields Sd2 header_at (length data_at) ≡ true = let b = c in
-    subst (λ (h : Header). good_fields Sd2 h (length data_at) ≡ true) (sym c.header_of-header.ensures) (rw sized b.requires.1) in
-    let fit_at : Fit Sd2 header_at data_at (length data_at) = fit Sd2 header_at data_at refl good in
-    omega (arith, fit_at.most, c.user_start-start.ensures)
-
-pub overflow_add-start-2 : goal.overflow_add-start-2
-overflow_add-start-2 c =
-    let data_at : List ℕ = bytes_for (content.Dpv1Call (call.Write 1 c.args.index)) c.args.body.now in
-    let sized : length data_at ≡ 4 + length c.args.body.now = bytes_long (content.Dpv1Call (call.Write 1 c.args.index)) c.args.body.now in
-    let header_at : Header = c.header_of-header.result in
-    let good : good_fields Sd2 header_at (length data_at) ≡ true = let b = c in
-    subst (λ (h : Header). good_fields Sd2 h (length data_at) ≡ true) (sym c.header_of-header.ensures) (rw sized b.requires.1) in
-    let fit_at : Fit Sd2 header_at data_at (length data_at) = fit Sd2 header_at data_at refl good in
-    omega (arith, fit_at.most, c.user_start-start.ensures, sized)
-
-pub overflow_add-start-3 : goal.overflow_add-start-3
-overflow_add-start-3 c =
-    let data_at : List ℕ = bytes_for (content.Dpv1Call (call.Write 1 c.args.index)) c.args.body.now in
-    let sized : length data_at ≡ 4 + length c.args.body.now = bytes_long (content.Dpv1Call (call.Write 1 c.args.index)) c.args.body.now in
-    let header_at : Header = c.header_of-header.result in
-    let good : good_fields Sd2 header_at (length data_at) ≡ true = let b = c in
-    subst (λ (h : Header). good_fields Sd2 h (length data_at) ≡ true) (sym c.header_of-header.ensures) (rw sized b.requires.1) in
-    let fit_at : Fit Sd2 header_at data_at (length data_at) = fit Sd2 header_at data_at refl good in
-    omega (arith, fit_at.most, c.user_start-start.ensures, sized)
-
 pub returns-then-request-start : goal.returns-then-request-start
 returns-then-request-start c =
     let data_at : List ℕ = bytes_for (content.Dpv1Call (call.Write 1 c.args.index)) c.args.body.now in

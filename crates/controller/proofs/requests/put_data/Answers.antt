@@ -2,19 +2,10 @@
 use mathlib.Core.List.{List, [], ◌∷◌}
 use Prim.Native.Nat.{ℕ}
 use native.Mathlib.Omega.{arith}
-use lib.ListN.{length, length-set, length-append}
+use lib.ListN.{length, length-append}
 use Rattle.octets.proofs.Front.{stores, both_stored}
 use Rattle.content.specs.Writing.{bytes_for}
 use Rattle.controller.proofs.requests.put_data.Goals as goal
-
-pub bounds-out-1 : goal.bounds-out-1
-bounds-out-1 c = simp length-set (omega (arith, c.requires.1))
-
-pub bounds-out-2 : goal.bounds-out-2
-bounds-out-2 c = simp length-set (omega (arith, c.requires.1))
-
-pub bounds-out-3 : goal.bounds-out-3
-bounds-out-3 c = simp length-set (omega (arith, c.requires.1))
 
 pub returns : goal.returns
 unfolding bytes_for

@@ -1,9 +1,7 @@
 -- `controller::requests::put_opening` meets its contract: the opening may be written.
 use mathlib.Core.List.{[]}
 use Rattle.fdl.specs.declared.telegram.Format.TheVariants.{Sd2}
-use Rattle.content.specs.Writing.{bytes_for}
 use Rattle.content.specs.declared.fields.Content.TheVariants as content
-use Rattle.service.specs.Writing.{telegram_for}
 use Rattle.protocol.proofs.Lemmas.Read.{opening_fine}
 use Rattle.protocol.specs.Telegrams.{opening_code}
 use Rattle.controller.proofs.Written.{may}
@@ -13,7 +11,3 @@ pub put_empty-requires : goal.put_empty-requires
 put_empty-requires c =
     let s = c.args.settings in
     may Sd2 s.printer s.controller opening_code content.SlaveDiagCall [] (opening_fine s.printer s.controller c.requires.printer c.requires.controller)
-
-pub returns : goal.returns
-unfolding telegram_for bytes_for
-returns c = c.put_empty.ensures

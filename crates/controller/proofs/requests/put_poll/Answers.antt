@@ -2,9 +2,7 @@
 use mathlib.Core.List.{[]}
 use Rattle.fdl.specs.declared.telegram.Format.TheVariants.{Sd2}
 use Rattle.acyclic.specs.declared.calls.Call.TheVariants as call
-use Rattle.content.specs.Writing.{bytes_for}
 use Rattle.content.specs.declared.fields.Content.TheVariants as content
-use Rattle.service.specs.Writing.{telegram_for}
 use Rattle.protocol.proofs.Lemmas.Read.{poll_fine}
 use Rattle.protocol.specs.Telegrams.{counted_code}
 use Rattle.controller.proofs.Written.{may}
@@ -15,7 +13,3 @@ put_empty-requires c =
     let s = c.args.settings in
     rw c.counted_code.ensures
     (may Sd2 s.printer s.controller (counted_code c.args.fcb) (content.Dpv1Call call.Poll) [] (poll_fine s.printer s.controller c.requires.printer c.requires.controller c.args.fcb))
-
-pub returns : goal.returns
-unfolding telegram_for bytes_for
-returns c = let p = c in rw (← p.counted_code.ensures) p.put_empty.ensures

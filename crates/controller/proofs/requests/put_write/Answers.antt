@@ -1,5 +1,6 @@
 -- `controller::requests::put_write` meets its contract: what is found is template k, and its write may be written.
-use mathlib.Core.Path.{refl, ap, ◌∙◌}
+use mathlib.Core.Path.{ap, ◌∙◌}
+use Rattle.octets.specs.Refusals.{told}
 use native.Mathlib.Omega.{arith}
 use lib.ListN.{length}
 use Rattle.fdl.specs.declared.telegram.Format.TheVariants.{Sd2}
@@ -12,11 +13,11 @@ use Rattle.controller.proofs.requests.put_write.Goals as goal
 
 pub returns-in_default : goal.returns-in_default
 returns-in_default c =
-    rw (none_left _ _ c.requires.1 c.requires.2 c.listed-found.ensures c.in_default.is)
+    rw (none_left _ _ c.requires.1 c.requires.2 c.listed.ensures (ap told c.in_default.is))
 
 pub put_body-requires : goal.put_body-requires
 put_body-requires c =
-    let held = holds c.args.book.now c.args.template c.requires.1 c.requires.2 c.in-Is.ensures refl in
+    let held = holds c.args.book.now c.args.template c.requires.1 c.requires.2 c.listed.ensures (ap told c.in-Ok.is) in
     let s = c.args.settings in
     let h = held in
     let body = c.part.ensures ∙ h.part in (
@@ -28,6 +29,6 @@ put_body-requires c =
 pub returns : goal.returns
 unfolding telegram_for
 returns c =
-    let held = holds c.args.book.now c.args.template c.requires.1 c.requires.2 c.in-Is.ensures refl in
+    let held = holds c.args.book.now c.args.template c.requires.1 c.requires.2 c.listed.ensures (ap told c.in-Ok.is) in
     let h = held in
     rw (one_left h, ← c.counted_code.ensures, ← (c.part.ensures ∙ h.part), ← h.slot) c.put_body.ensures

@@ -3,7 +3,6 @@ use mathlib.Core.Path.{sym, ap, ◌∙◌}
 use Rattle.book.specs.Contents.{templates_of}
 use Rattle.protocol.specs.Controller.{verdict_of}
 use Rattle.controller_state.specs.Accepted.{settings_in_lem, standing}
-use borrow.Author.Rules.{rules}
 use Rattle.controller_moves.proofs.moves.move_by.Goals as goal
 
 pub after_job-requires : goal.after_job-requires
@@ -12,12 +11,6 @@ after_job-requires c =
     let e = ap (verdict_of a.settings a.book.now) (sym c.in-Asking.is) ∙ c.requires in
     (settings_in_lem a.settings a.book.now _ e, standing a.settings a.book.now _ _ _ _ e)
 
-pub returns-in-Fresh : goal.returns-in-Fresh
-returns-in-Fresh c = search rules
-
 pub returns-in-Opening : goal.returns-in-Opening
 returns-in-Opening c =
     rw c.in-Opening.is (c.after_opening.ensures (templates_of c.args.book.now))
-
-pub returns-in-Asking : goal.returns-in-Asking
-returns-in-Asking c = rw c.in-Asking.is c.after_job.ensures

@@ -1,58 +1,16 @@
 -- `parameters_writer::writing::write` meets its contract. The tests are the verdict, and what is added up is the length of the bytes.
 use mathlib.Core.Path.{◌≡◌, sym, ap, ◌∙◌}
 use mathlib.Core.List.{List}
-use Prim.Native.Nat.{ℕ, ◌+◌, ◌≤◌, ◌<◌}
+use Prim.Native.Nat.{ℕ, ◌+◌, ◌≤◌}
 use native.Mathlib.Omega.{arith}
 use lib.ListN.{length}
-use borrow.Author.Tests.{lt-ltb, le-ltb}
+use borrow.Author.Tests.{le-ltb}
 use Rattle.octets.specs.Front.{Verdict, fine, fault}
 use Rattle.octets.proofs.Front.{refused, too_small, stored}
-use Rattle.parameters.specs.Fields.{mode_of, fixed_length, extension_verdict, verdict_of}
+use Rattle.parameters.specs.Fields.{fixed_length, extension_verdict, verdict_of}
 use Rattle.parameters.specs.Writing.{bytes_for, user_start, verdict_for}
-use Rattle.parameters.proofs.Lemmas.Fields.{fixed_most, bytes_length, extension_verdict_lem}
+use Rattle.parameters.proofs.Lemmas.Fields.{bytes_length, extension_verdict_lem}
 use Rattle.parameters_writer.proofs.writing.write.Goals as goal
-
-pub overflow_add-size : goal.overflow_add-size
-overflow_add-size c =
-    let start : c.fixed_length.result ≡ user_start c.args.fields = c.fixed_length.ensures ∙ ap fixed_length c.mode_of.ensures in
-    omega (arith, start, fixed_most (mode_of c.args.fields.extension))
-
-pub returns-then-size-gt244 : goal.returns-then-size-gt244
-unfolding verdict_of
-returns-then-size-gt244 c =
-    let bytes_at : List ℕ = bytes_for c.args.fields c.args.user.now in
-    let start : c.fixed_length.result ≡ user_start c.args.fields = c.fixed_length.ensures ∙ ap fixed_length c.mode_of.ensures in
-    let h : 244 < user_start c.args.fields + length c.args.user.now = omega (arith, start) in
-    record { answer = simp (lt-ltb _ _ h) (refused 20 bytes_at c.args.out.now).0; bytes = simp (lt-ltb _ _ h) (refused 20 bytes_at c.args.out.now).1 }
-
-pub returns-then-not-good_flags : goal.returns-then-not-good_flags
-unfolding verdict_of
-returns-then-not-good_flags c =
-    let bytes_at : List ℕ = bytes_for c.args.fields c.args.user.now in
-    let start : c.fixed_length.result ≡ user_start c.args.fields = c.fixed_length.ensures ∙ ap fixed_length c.mode_of.ensures in
-    let small : let a = c.args in user_start a.fields + length a.user.now ≤ 244 = omega (arith, start) in
-    record { answer = simp (le-ltb _ _ small, sym c.good_flags.ensures ∙ c.if-not-good_flags.true) (refused 21 bytes_at c.args.out.now).0; bytes = simp (le-ltb _ _ small, sym c.good_flags.ensures ∙ c.if-not-good_flags.true) (refused 21 bytes_at c.args.out.now).1 }
-
-pub returns-then-not-good_response : goal.returns-then-not-good_response
-unfolding verdict_of
-returns-then-not-good_response c =
-    let bytes_at : List ℕ = bytes_for c.args.fields c.args.user.now in
-    let start : c.fixed_length.result ≡ user_start c.args.fields = c.fixed_length.ensures ∙ ap fixed_length c.mode_of.ensures in
-    let small : let a = c.args in user_start a.fields + length a.user.now ≤ 244 = omega (arith, start) in
-    record {
-      answer = simp (
-        le-ltb _ _ small,
-        sym c.good_flags.ensures ∙ c.if-not-good_flags.false,
-        sym c.good_response.ensures ∙ c.if-not-good_response.true,
-      )
-          (refused 21 bytes_at c.args.out.now).0;
-      bytes = simp (
-        le-ltb _ _ small,
-        sym c.good_flags.ensures ∙ c.if-not-good_flags.false,
-        sym c.good_response.ensures ∙ c.if-not-good_response.true,
-      )
-          (refused 21 bytes_at c.args.out.now).1;
-    }
 
 pub returns-then-not-good_extension : goal.returns-then-not-good_extension
 unfolding verdict_of
@@ -86,14 +44,6 @@ returns-then-out-size c =
     ) in
     let verdict : verdict_at ≡ fine = rest ∙ extension_verdict_lem _ ∙ simp (sym c.good_extension.ensures ∙ c.if-not-good_extension.false) in
     record { answer = rw verdict (too_small bytes_at c.args.out.now (omega (arith, total))).0; bytes = rw verdict (too_small bytes_at c.args.out.now (omega (arith, total))).1 }
-
-pub put-requires : goal.put-requires
-put-requires c =
-    let bytes_at : List ℕ = bytes_for c.args.fields c.args.user.now in
-    let start : c.fixed_length.result ≡ user_start c.args.fields = c.fixed_length.ensures ∙ ap fixed_length c.mode_of.ensures in
-    let total : length bytes_at ≡ c.fixed_length.result + length c.args.user.now = omega (arith, bytes_length c.args.fields c.args.user.now, start) in
-    let room : length bytes_at ≤ length c.args.out.now = omega (arith, total) in
-    room
 
 pub returns : goal.returns
 unfolding verdict_of

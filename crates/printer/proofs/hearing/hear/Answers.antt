@@ -2,7 +2,6 @@
 use mathlib.Core.Path.{refl, ap, ◌∙◌}
 use Rattle.protocol.specs.Printer as printer
 use Rattle.protocol.specs.Printer.{opening_reply, opened, reply_bytes, saying, heard_by, hear, Station, lending, Stepped, leaving, stepped}
-use Rattle.protocol.specs.declared.printer.Reaction.{Reaction}
 use Rattle.printer_input.specs.declared.Received.TheVariants as received
 use Rattle.printer.specs.Meaning.{body_in}
 use Rattle.printer.proofs.Heard.{ready, by_received, came, ask_body, sent}
@@ -17,29 +16,6 @@ open-requires c = ready c.requires (came c.args.printer.address c.args.telegram.
 pub counted-requires : goal.counted-requires
 counted-requires c = ready c.requires (came c.args.printer.address c.args.telegram.now {r = received.Counted c.in-Counted.fcb c.in-Counted.sa c.in-Counted.ask} c.in-Counted.ensures refl)
 
-pub returns-in-Nothing : goal.returns-in-Nothing
-returns-in-Nothing c =
-    let x : Station = lending c.args.printer c.args.lengths.now c.args.bodies.now c.args.out.now in
-    by_received c.args.diagnosis.now c.args.not_yet c.args.telegram.now x {r = received.Nothing} c.in-Nothing.ensures refl
-
-pub returns-in-Elsewhere : goal.returns-in-Elsewhere
-returns-in-Elsewhere c =
-    let x : Station = lending c.args.printer c.args.lengths.now c.args.bodies.now c.args.out.now in
-    ap (λ (r : Reaction). leaving r c.args.lengths.now c.args.bodies.now c.args.out.now) c.quiet.ensures
-    ∙ by_received c.args.diagnosis.now c.args.not_yet c.args.telegram.now x {r = received.Elsewhere} c.in-Elsewhere.ensures refl
-
-pub returns-in-Status : goal.returns-in-Status
-returns-in-Status c =
-    let x : Station = lending c.args.printer c.args.lengths.now c.args.bodies.now c.args.out.now in
-    sent c.args.lengths.now c.args.bodies.now c.status.ensures
-    ∙ by_received c.args.diagnosis.now c.args.not_yet c.args.telegram.now x {r = received.Status c.in-Status.sa} c.in-Status.ensures refl
-
-pub returns-in-Uncounted : goal.returns-in-Uncounted
-returns-in-Uncounted c =
-    let x : Station = lending c.args.printer c.args.lengths.now c.args.bodies.now c.args.out.now in
-    ap (λ (r : Reaction). leaving r c.args.lengths.now c.args.bodies.now c.args.out.now) c.quiet-in-Uncounted.ensures
-    ∙ by_received c.args.diagnosis.now c.args.not_yet c.args.telegram.now x {r = received.Uncounted} c.in-Uncounted.ensures refl
-
 pub returns-in-Opening : goal.returns-in-Opening
 returns-in-Opening c =
     let a = c.args in
@@ -51,9 +27,3 @@ returns-in-Opening c =
     stepped (saying (opened a.printer o.sa) x.slots a.out.now (reply_bytes a.diagnosis.now a.printer.address o.sa (opening_reply y))))
     (ask_body a.telegram.now o.ask)
     ∙ by_received c.args.diagnosis.now c.args.not_yet c.args.telegram.now x {r = received.Opening c.in-Opening.sa c.in-Opening.ask} c.in-Opening.ensures refl
-
-pub returns-in-Counted : goal.returns-in-Counted
-returns-in-Counted c =
-    let x : Station = lending c.args.printer c.args.lengths.now c.args.bodies.now c.args.out.now in
-    c.counted.ensures
-    ∙ by_received c.args.diagnosis.now c.args.not_yet c.args.telegram.now x {r = received.Counted c.in-Counted.fcb c.in-Counted.sa c.in-Counted.ask} c.in-Counted.ensures refl

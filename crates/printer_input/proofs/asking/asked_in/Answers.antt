@@ -8,7 +8,7 @@ use Rattle.octets.specs.Choice.{pick}
 use Rattle.octets.proofs.PartLaws.{part_short}
 use Rattle.octets.specs.declared.Mode.TheVariants as mode
 use Prim.Native.Nat.{ℕ}
-use Rattle.fdl.specs.declared.reading.Reading.{Reading}
+use Rattle.fdl.specs.Reading.{Reading}
 use Rattle.access.specs.Route.{route_of}
 use Rattle.service.specs.Reading.{routed_by, service_in, read_of}
 use Rattle.protocol.specs.Printer.{unknown, ask_by, ask_in}

@@ -1,43 +1,30 @@
--- `printer_state::checking::long_slot` meets its contract. A length so far or one that is left is too long exactly when one
--- of all is.
-use mathlib.Core.Path.{◌≡◌, refl, sym, ap, ◌∙◌}
+-- `printer_state::checking::long_slot` meets its contract. What is known of the lengths so far is whether one of them is too long.
+use mathlib.Core.Path.{◌≡◌, refl, ap, ◌∙◌}
 use mathlib.Core.Bool.{Bool, true, false}
-use Prim.Native.Nat.{◌+◌, ◌-◌, ◌≤◌}
-use native.Mathlib.Omega.{arith}
+use mathlib.Core.List.{List, [], ◌∷◌, ◌++◌}
+use Prim.Native.Nat.{ℕ}
 use lib.Dec.{ltb}
-use lib.ListN.{length, get_or, drop}
-use lib.Seq.{drop-length}
 use borrow.Author.Rules.{rules}
+use Rattle.std.proofs.lemmas.Fn.{fold_over, fronts, slice_gives}
 use Rattle.octets.specs.Choice.{◌or◌}
 use Rattle.protocol.specs.Slots.{too_long}
-use Rattle.printer_state.proofs.Lengths.{next}
 use Rattle.printer_state.proofs.checking.long_slot.Goals as goal
 
-swapped : (a b c : Bool) → ((a or b) or c) ≡ (b or (a or c))
+swapped : (a b c : Bool) → (a or (b or c)) ≡ (b or (a or c))
 swapped true true c = refl
 swapped true false c = refl
 swapped false b c = refl
 
-none_left : (b : Bool) → (b or false) ≡ b
-none_left true = refl
-none_left false = refl
-
-pub loop-i-init : goal.loop-i-init
-loop-i-init c = (omega arith, refl)
-
-pub loop-i-preserved : goal.loop-i-preserved
-loop-i-preserved c =
-    let l = c.args.lengths.now in
-    let i = c.loop-i.i in
-    let long = c.loop-i.long in
-    let rest = too_long (drop (i + 1) l) in (
-      omega arith,
-      ap (λ (x : Bool). x or rest) c.longer-long.ensures ∙ swapped (ltb 200 (get_or l i 0)) long rest
-          ∙ ap (λ (x : Bool). long or x) (sym (next l i c.loop-i-test.true)) ∙ c.loop-i.invariant.1,
-    )
+-- one length more behind the others
+one_more : (ns : List ℕ) (n : ℕ) → (ltb 200 n or too_long ns) ≡ too_long (ns ++ (n ∷ []))
+one_more [] n = refl
+one_more (m ∷ ns) n = swapped (ltb 200 n) (ltb 200 m) (too_long ns) ∙ ap (λ (b : Bool). ltb 200 m or b) (one_more ns n)
 
 pub returns : goal.returns
 returns c =
-    let l = c.args.lengths.now in
-    let e : c.loop-i.i ≡ length l = omega arith in
-    sym (none_left c.loop-i.long) ∙ rw (e, drop-length l) at c.loop-i.invariant.1
+    let all : c.iter.result.rest.now ≡ c.args.lengths.now = cc in
+    let folded : c.fold.result ≡ too_long c.iter.result.rest.now = fold_over fronts _ _ (λ ns long. long ≡ too_long ns) _
+    (λ ns long n next f j k. let e : next ≡ (ltb 200 n.now or long) = search rules in (e ∙ ap (λ (b : Bool). ltb 200 n.now or b) j ∙ one_more ns n.now, search rules))
+    c.iter.result _ _ _ (slice_gives c.iter.result) refl c.fold.ensures.ran
+    in
+    folded ∙ ap too_long all
