@@ -1,5 +1,5 @@
 -- The four fields of a call or an answer name it again, and what four fields name has them in every place that it has.
-use Rattle.std.specs.Prelude.{ℕ, ◌≡◌, refl, List, [], ◌∷◌, get_or, take, Some}
+use Rattle.std.specs.Prelude.{ℕ, ◌≡◌, refl, List, [], ◌∷◌, get_or, take, Some, None}
 use Rattle.std.proofs.Common.{subst, eqb-true}
 use Rattle.std.proofs.Math.Bool.{true}
 use Rattle.std.proofs.Math.Dec.{eqb}
@@ -11,14 +11,13 @@ use Rattle.acyclic.specs.declared.calls.Call.{Call}
 use Rattle.acyclic.specs.declared.calls.Call.TheVariants as call
 use Rattle.acyclic.specs.declared.answers.Answer.{Answer}
 use Rattle.acyclic.specs.declared.answers.Answer.TheVariants as answer
-use Rattle.acyclic_fields.specs.Four.{call_four, answer_four, call_named, negative_named, answer_named, call_places, answer_places}
-use Rattle.acyclic_fields.specs.declared.four.Case.{Case}
+use Rattle.acyclic_fields.specs.Four.{call_four, answer_four, call_named, negative_named, answer_named, call_places, answer_places, Case}
 use Rattle.acyclic_fields.specs.declared.four.Case.TheVariants as case
 
 -- ---- from a case to its fields and back
 
 -- The fields of a call name it.
-pub call_four_named : (c : Call) → let f = call_four c in call_named (get_or f 0 0) (get_or f 1 0) (get_or f 2 0) (get_or f 3 0) ≡ case.Call c
+pub call_four_named : (c : Call) → let f = call_four c in call_named (get_or f 0 0) (get_or f 1 0) (get_or f 2 0) (get_or f 3 0) ≡ Some (case.Call c)
 unfolding call_named
 call_four_named call.Poll = refl
 call_four_named (call.Read slot index l) = refl
@@ -28,7 +27,7 @@ call_four_named call.Idle = refl
 call_four_named (call.Transport slot index) = refl
 
 -- The fields of an answer name it.
-pub answer_four_named : (x : Answer) → let f = answer_four x in answer_named (get_or f 0 0) (get_or f 1 0) (get_or f 2 0) (get_or f 3 0) ≡ case.Answer x
+pub answer_four_named : (x : Answer) → let f = answer_four x in answer_named (get_or f 0 0) (get_or f 1 0) (get_or f 2 0) (get_or f 3 0) ≡ Some (case.Answer x)
 unfolding answer_named failed_by
 answer_four_named (answer.Read slot index) = refl
 answer_four_named (answer.Write slot index l) = refl
@@ -48,9 +47,9 @@ module _ (n a b d : ℕ) where
 
   -- a call with the same fields, or nothing
   abbrev AsCall : Case → Type 0
-  AsCall (case.Call c) = take (call_places c) (call_four c) ≡ take (call_places c) given
-  AsCall (case.Answer x) = ⊥
-  AsCall case.Unknown = Unit
+  AsCall (Some (case.Call c)) = take (call_places c) (call_four c) ≡ take (call_places c) given
+  AsCall (Some (case.Answer x)) = ⊥
+  AsCall None = Unit
 
   as_call : AsCall (call_named n a b d)
   unfolding call_named
@@ -63,18 +62,18 @@ module _ (n a b d : ℕ) where
       (λ _. by_pick AsCall (eqb n transport_number) (λ e. rw (eqb-true n transport_number e)) (λ _. tt))))))
 
   -- A call that four fields name has them in every place that it has.
-  pub call_named_four : {c : Call} → call_named n a b d ≡ case.Call c → take (call_places c) (call_four c) ≡ take (call_places c) (n ∷ a ∷ b ∷ d ∷ [])
+  pub call_named_four : {c : Call} → call_named n a b d ≡ Some (case.Call c) → take (call_places c) (call_four c) ≡ take (call_places c) (n ∷ a ∷ b ∷ d ∷ [])
   call_named_four e = subst AsCall e as_call
 
   -- They name no answer.
-  pub call_named_no_answer : {x : Answer} → call_named n a b d ≡ case.Answer x → ⊥
+  pub call_named_no_answer : {x : Answer} → call_named n a b d ≡ Some (case.Answer x) → ⊥
   call_named_no_answer e = subst AsCall e as_call
 
   -- an answer with the same fields, or nothing
   abbrev AsAnswer : Case → Type 0
-  AsAnswer (case.Call c) = ⊥
-  AsAnswer (case.Answer x) = take (answer_places x) (answer_four x) ≡ take (answer_places x) given
-  AsAnswer case.Unknown = Unit
+  AsAnswer (Some (case.Call c)) = ⊥
+  AsAnswer (Some (case.Answer x)) = take (answer_places x) (answer_four x) ≡ take (answer_places x) given
+  AsAnswer None = Unit
 
   as_negative : AsAnswer (negative_named (failed_by n) a b d)
   unfolding failed_by
@@ -96,12 +95,12 @@ module _ (n a b d : ℕ) where
       (λ _. by_pick AsAnswer (eqb n transport_number) (λ e. rw (eqb-true n transport_number e)) (λ _. as_negative)))))
 
   -- An answer that four fields name has them in every place that it has.
-  pub answer_named_four : {x : Answer} → answer_named n a b d ≡ case.Answer x
+  pub answer_named_four : {x : Answer} → answer_named n a b d ≡ Some (case.Answer x)
       → take (answer_places x) (answer_four x) ≡ take (answer_places x) (n ∷ a ∷ b ∷ d ∷ [])
   answer_named_four e = subst AsAnswer e as_answer
 
   -- They name no call.
-  pub answer_named_no_call : {c : Call} → answer_named n a b d ≡ case.Call c → ⊥
+  pub answer_named_no_call : {c : Call} → answer_named n a b d ≡ Some (case.Call c) → ⊥
   answer_named_no_call e = subst AsAnswer e as_answer
 
 -- ---- how many places each case has, in plain numbers

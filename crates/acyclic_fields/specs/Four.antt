@@ -1,6 +1,6 @@
 -- DPV1 calls and answers by their first four fields: the function number as it stands in the first byte, and three that each case has
 -- its own use for. A field that the case does not have is 0, and so is the number of a poll, which has no byte.
-use Rattle.std.specs.Prelude.{ℕ, List, [], ◌∷◌, eqb, Some, None}
+use Rattle.std.specs.Prelude.{ℕ, List, [], ◌∷◌, eqb, Some, None, Option}
 use Rattle.octets.specs.Choice.{pick}
 use Rattle.acyclic.specs.Numbers.{read_number, write_number, alarm_ack_number, idle_number, transport_number, negative_number, failed_by, Failed}
 use Rattle.acyclic.specs.declared.calls.Call.{Call}
@@ -8,7 +8,7 @@ use Rattle.acyclic.specs.declared.calls.Call.TheVariants as call
 use Rattle.acyclic.specs.declared.answers.Answer.{Answer}
 use Rattle.acyclic.specs.declared.answers.Answer.TheVariants as answer
 use Rattle.acyclic_fields.specs.declared.four.Four.{Four}
-use Rattle.acyclic_fields.specs.declared.four.Case.{Case}
+use Rattle.acyclic_fields.specs.declared.four.Case as the-case
 use Rattle.acyclic_fields.specs.declared.four.Case.TheVariants as case
 
 -- ---- the first four fields of a call and of an answer
@@ -35,27 +35,31 @@ answer_four (answer.Negative f decode code1 code2) = negative_number f ∷ decod
 
 -- ---- what such fields name
 
+-- the case that fields name, if they name one
+abbrev pub Case : Type 0
+Case = Option the-case.Case
+
 -- the case that a number names, with the three fields behind it
 unfoldable pub call_named : (n a b c : ℕ) → Case
 call_named n a b c =
-    pick (eqb n 0) (case.Call call.Poll)
-    (pick (eqb n read_number) (case.Call (call.Read a b c))
-    (pick (eqb n write_number) (case.Call (call.Write a b))
-    (pick (eqb n alarm_ack_number) (case.Call (call.AlarmAck a b c))
-    (pick (eqb n idle_number) (case.Call call.Idle) (pick (eqb n transport_number) (case.Call (call.Transport a b)) case.Unknown)))))
+    pick (eqb n 0) (Some (case.Call call.Poll))
+    (pick (eqb n read_number) (Some (case.Call (call.Read a b c)))
+    (pick (eqb n write_number) (Some (case.Call (call.Write a b)))
+    (pick (eqb n alarm_ack_number) (Some (case.Call (call.AlarmAck a b c)))
+    (pick (eqb n idle_number) (Some (case.Call call.Idle)) (pick (eqb n transport_number) (Some (case.Call (call.Transport a b))) None)))))
 
 -- a negative answer for the function that its number names
 abbrev pub negative_named : Failed → (decode code1 code2 : ℕ) → Case
-negative_named (Some f) decode code1 code2 = case.Answer (answer.Negative f decode code1 code2)
-negative_named None decode code1 code2 = case.Unknown
+negative_named (Some f) decode code1 code2 = Some (case.Answer (answer.Negative f decode code1 code2))
+negative_named None decode code1 code2 = None
 
 unfoldable pub answer_named : (n a b c : ℕ) → Case
 answer_named n a b c =
-    pick (eqb n read_number) (case.Answer (answer.Read a b))
-    (pick (eqb n write_number) (case.Answer (answer.Write a b c))
-    (pick (eqb n alarm_ack_number) (case.Answer (answer.AlarmAck a b c))
-    (pick (eqb n idle_number) (case.Answer answer.Idle)
-    (pick (eqb n transport_number) (case.Answer (answer.Transport a b)) (negative_named (failed_by n) a b c)))))
+    pick (eqb n read_number) (Some (case.Answer (answer.Read a b)))
+    (pick (eqb n write_number) (Some (case.Answer (answer.Write a b c)))
+    (pick (eqb n alarm_ack_number) (Some (case.Answer (answer.AlarmAck a b c)))
+    (pick (eqb n idle_number) (Some (case.Answer answer.Idle))
+    (pick (eqb n transport_number) (Some (case.Answer (answer.Transport a b))) (negative_named (failed_by n) a b c)))))
 
 -- ---- how many of the four a case has, from the first on
 
@@ -77,6 +81,6 @@ answer_places (answer.Transport slot index) = 3
 answer_places (answer.Negative f decode code1 code2) = 4
 
 abbrev pub places_in : Case → ℕ
-places_in (case.Call c) = call_places c
-places_in (case.Answer x) = answer_places x
-places_in case.Unknown = 0
+places_in (Some (case.Call c)) = call_places c
+places_in (Some (case.Answer x)) = answer_places x
+places_in None = 0

@@ -60,74 +60,70 @@ pub fn answer_four(answer: Answer) -> Four
     }
 }
 
-// What fields that are to be written name by their number. One that the way does not have is unknown.
+// What fields that are to be written name by their number.
 #[derive(Drop)]
 pub enum Case {
     Call(Call),
     Answer(Answer),
-    Unknown,
 }
 
-// What the number and the three fields behind it name in a call. Fields that the call does not have
-// are not looked at.
+// What the number and the three fields behind it name in a call, if a call has that number. Fields that
+// the call does not have are not looked at.
 #[tactic(auto, unfolding(crate::specs::Four::call_named))]
-pub fn call_named(number: u8, slot: u8, index: u8, last: u8) -> Case
+pub fn call_named(number: u8, slot: u8, index: u8, last: u8) -> Option<Case>
     ensures { result ≡ call_named number slot index last }
 {
     match number {
-        0 => Case::Call(Call::Poll),
-        READ => Case::Call(Call::Read {
+        0 => Some(Case::Call(Call::Poll)),
+        READ => Some(Case::Call(Call::Read {
             slot,
             index,
             length: last,
-        }),
-        WRITE => Case::Call(Call::Write { slot, index }),
-        ALARM_ACK => Case::Call(Call::AlarmAck {
+        })),
+        WRITE => Some(Case::Call(Call::Write { slot, index })),
+        ALARM_ACK => Some(Case::Call(Call::AlarmAck {
             slot,
             alarm: index,
             specifier: last,
-        }),
-        IDLE => Case::Call(Call::Idle),
-        TRANSPORT => Case::Call(Call::Transport { slot, index }),
-        _ => Case::Unknown,
+        })),
+        IDLE => Some(Case::Call(Call::Idle)),
+        TRANSPORT => Some(Case::Call(Call::Transport { slot, index })),
+        _ => None,
     }
 }
 
-// What a number names in an answer that no positive one has.
-fn negative_named(number: u8, decode: u8, code1: u8, code2: u8) -> Case
+// What a number that no positive answer has names in an answer, if one has it.
+fn negative_named(number: u8, decode: u8, code1: u8, code2: u8) -> Option<Case>
     ensures { result ≡ negative_named (failed_by number) decode code1 code2 }
 {
-    let failed = failed_by(number);
-    match failed {
-        Some(function) => Case::Answer(Answer::Negative {
-            function,
-            decode,
-            code1,
-            code2,
-        }),
-        None => Case::Unknown,
-    }
+    let function = failed_by(number)?;
+    Some(Case::Answer(Answer::Negative {
+        function,
+        decode,
+        code1,
+        code2,
+    }))
 }
 
-// What the number and the three fields behind it name in an answer.
+// What the number and the three fields behind it name in an answer, if an answer has that number.
 #[tactic(auto, unfolding(crate::specs::Four::answer_named))]
-pub fn answer_named(number: u8, slot: u8, index: u8, last: u8) -> Case
+pub fn answer_named(number: u8, slot: u8, index: u8, last: u8) -> Option<Case>
     ensures { result ≡ answer_named number slot index last }
 {
     match number {
-        READ => Case::Answer(Answer::Read { slot, index }),
-        WRITE => Case::Answer(Answer::Write {
+        READ => Some(Case::Answer(Answer::Read { slot, index })),
+        WRITE => Some(Case::Answer(Answer::Write {
             slot,
             index,
             length: last,
-        }),
-        ALARM_ACK => Case::Answer(Answer::AlarmAck {
+        })),
+        ALARM_ACK => Some(Case::Answer(Answer::AlarmAck {
             slot,
             alarm: index,
             specifier: last,
-        }),
-        IDLE => Case::Answer(Answer::Idle),
-        TRANSPORT => Case::Answer(Answer::Transport { slot, index }),
+        })),
+        IDLE => Some(Case::Answer(Answer::Idle)),
+        TRANSPORT => Some(Case::Answer(Answer::Transport { slot, index })),
         _ => negative_named(number, slot, index, last),
     }
 }

@@ -1,12 +1,12 @@
 -- 0 means accepted: what the functions of this crate answer is 0 exactly then, and a refusal number of document 01 else.
-use Rattle.std.specs.Prelude.{ℕ, ◌≡◌, refl, true, List, length, Ok, Err}
+use Rattle.std.specs.Prelude.{ℕ, ◌≡◌, refl, true, List, length, Ok, Err, Some, None}
 use Rattle.octets.specs.Refusals.{listed, numbered, is_fine, Status}
 use Rattle.octets.proofs.Refusals.{zero_accepted, listed_refused}
 use Rattle.acyclic.specs.Calls.{read_call_of, CallReading}
 use Rattle.acyclic.specs.Answers.{read_answer_of, AnswerReading}
 use Rattle.acyclic.proofs.Refusals as acyclic
 use Rattle.acyclic.specs.Refusals as acyclic_words
-use Rattle.acyclic_fields.specs.declared.four.Case.{Case}
+use Rattle.acyclic_fields.specs.Four.{Case}
 use Rattle.acyclic_fields.specs.declared.four.Case.TheVariants as case
 use Rattle.fields.specs.Outcome.{status_of}
 use Rattle.fields.proofs.Refusals.{is_written, written_status}
@@ -34,9 +34,9 @@ read_dpv1_answer_status s = answer_by_lem (read_answer_of s) (acyclic.answer_num
 
 pub verdict_at_lem : (k : Case) (part : List ℕ) → numbered (verdict_at k part) ≡ true
 unfolding listed
-verdict_at_lem (case.Call c) part = acyclic.call_verdict_numbered c (length part)
-verdict_at_lem (case.Answer x) part = acyclic.answer_verdict_numbered x (length part)
-verdict_at_lem case.Unknown part = refl
+verdict_at_lem (Some (case.Call c)) part = acyclic.call_verdict_numbered c (length part)
+verdict_at_lem (Some (case.Answer x)) part = acyclic.answer_verdict_numbered x (length part)
+verdict_at_lem None part = refl
 
 case_status : (k : Case) (part : List ℕ) (room : ℕ) → Status (is_written (verdict_at k part) (bytes_at k part) room) (status_of (answer_of k part room))
 case_status k part room = written_status (verdict_at k part) (bytes_at k part) room (verdict_at_lem k part)

@@ -1,15 +1,14 @@
 -- Calls and answers of DPV1 through the C interface. Their fields are six bytes: the function number as it stands in the first
 -- byte, three that each case has its own use for, and start and length of the data. A field that the case does not have is 0,
 -- and so is the number of a poll, which has no byte.
-use Rattle.std.specs.Prelude.{ℕ, List, [], ◌∷◌, ◌++◌, get_or, Ok, Err}
+use Rattle.std.specs.Prelude.{ℕ, List, [], ◌∷◌, ◌++◌, get_or, Ok, Err, Some, None}
 use Rattle.octets.specs.Part.{part_of}
 use Rattle.octets.specs.Front.{Verdict, fault, answer_by, held_by, Written}
 use Rattle.acyclic.specs.Calls as calls
 use Rattle.acyclic.specs.Answers as answers
 use Rattle.acyclic.specs.Calls.{CallReading}
 use Rattle.acyclic.specs.Answers.{AnswerReading}
-use Rattle.acyclic_fields.specs.Four.{call_four, answer_four, call_named, answer_named}
-use Rattle.acyclic_fields.specs.declared.four.Case.{Case}
+use Rattle.acyclic_fields.specs.Four.{call_four, answer_four, call_named, answer_named, Case}
 use Rattle.acyclic_fields.specs.declared.four.Case.TheVariants as case
 
 -- start and length of the data behind them
@@ -45,14 +44,14 @@ answer_in fields = answer_named (get_or fields 0 0) (get_or fields 1 0) (get_or 
 
 -- a number that names no case is reserved
 abbrev pub verdict_at : Case → (part : List ℕ) → Verdict
-verdict_at (case.Call c) part = calls.verdict_for c part
-verdict_at (case.Answer x) part = answers.verdict_for x part
-verdict_at case.Unknown part = fault 28
+verdict_at (Some (case.Call c)) part = calls.verdict_for c part
+verdict_at (Some (case.Answer x)) part = answers.verdict_for x part
+verdict_at None part = fault 28
 
 abbrev pub bytes_at : Case → (part : List ℕ) → List ℕ
-bytes_at (case.Call c) part = calls.bytes_for c part
-bytes_at (case.Answer x) part = answers.bytes_for x part
-bytes_at case.Unknown part = []
+bytes_at (Some (case.Call c)) part = calls.bytes_for c part
+bytes_at (Some (case.Answer x)) part = answers.bytes_for x part
+bytes_at None part = []
 
 -- what is answered then at a lent slice of so many bytes, and what that slice holds
 abbrev pub answer_of : Case → (part : List ℕ) (room : ℕ) → Written

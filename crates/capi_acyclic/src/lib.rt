@@ -66,18 +66,18 @@ pub extern "C" fn rabtunex_read_dpv1_answer(bytes: &[u8], fields: &mut [u8; 6]) 
 
 // Writes what was named, with its data, and its length to stored.
 #[tactic(auto, unfolding(octets::specs::Front::answer_by, octets::specs::Front::held_by))]
-fn write_case(case: Case, part: &[u8], out: &mut [u8], stored: &mut usize) -> u8
+fn write_case(case: Option<Case>, part: &[u8], out: &mut [u8], stored: &mut usize) -> u8
     ensures refusal { result ≡ status_of (answer_of case part.now (length out.old)) }
     ensures bytes { out.new ≡ held_of case part.now out.old }
     ensures count { stored.new ≡ count_after (answer_of case part.now (length out.old)) stored.old }
 {
     match case {
-        Case::Call(call) => store_count(acyclic_writer::write_call(call, part, out), stored),
-        Case::Answer(answer) => store_count(
+        Some(Case::Call(call)) => store_count(acyclic_writer::write_call(call, part, out), stored),
+        Some(Case::Answer(answer)) => store_count(
             acyclic_writer::write_answer(answer, part, out),
             stored,
         ),
-        Case::Unknown => Refusal::Dpv1Code.number(),
+        None => Refusal::Dpv1Code.number(),
     }
 }
 

@@ -1,5 +1,5 @@
 -- What an answer of 0 says of a reading, and both ways between a service telegram and its eighteen fields.
-use Rattle.std.specs.Prelude.{ℕ, ◌+◌, ◌≡◌, refl, Bool, true, false, List, length, get_or, eqb, ltb, Ok, Err}
+use Rattle.std.specs.Prelude.{ℕ, ◌+◌, ◌≡◌, refl, Bool, true, false, List, length, get_or, eqb, ltb, Ok, Err, Some, None}
 use Rattle.std.proofs.Common.{sym, ap, ◌∙◌, subst}
 use Rattle.octets.specs.Choice.{pick}
 use Rattle.octets.proofs.Choice.{never}
@@ -31,10 +31,9 @@ use Rattle.service.proofs.Lemmas.Back.{both_fine}
 use Rattle.service.specs.Writing.{header_for, telegram_for, route_verdict, verdict_of, way_by}
 use Rattle.service.specs.declared.reading.Way.{Way}
 use Rattle.service.specs.declared.reading.Way.TheVariants as way
-use Rattle.fields.specs.Kinds.{format_number, Numbered}
+use Rattle.fields.specs.Kinds.{format_number, Numbered, Kind}
 use Rattle.fields.specs.Kinds as kinds
 use Rattle.fields.proofs.Laws.{format_named, kind_numbered}
-use Rattle.fields.specs.declared.kinds.Kind.{Kind}
 use Rattle.fields.specs.declared.kinds.Kind.TheVariants as kind
 use Rattle.service_fields.specs.Service.{is_answer, WayFits, content_places, places_in, right_way, mode_of, content_in}
 use Rattle.service_fields.proofs.Laws.{right_way_lem, right_way_only, Goes, route_goes, content_named, content_kept, named_content}
@@ -189,15 +188,15 @@ module _ (fields part before : List ℕ) (version : ℕ) (b : Bytes fields) (v :
   -- what was written is read again
   kind_read : (k : Kind) → Numbered (get_or fields 2 0) k → (x : Named) → content_in fields version ≡ x → kind_verdict k x fields part ≡ fine
       → let t = kind_bytes k x fields part in ReadAs (places_in x) fields part t before (read_in t version)
-  kind_read kind.Confirmation n x e g = absurd (fault_fine g)
-  kind_read kind.Token n x e g = absurd (fault_fine g)
-  kind_read (kind.Telegram f) n (named.Content c) e g =
+  kind_read (Some kind.Confirmation) n x e g = absurd (fault_fine g)
+  kind_read (Some kind.Token) n x e g = absurd (fault_fine g)
+  kind_read (Some (kind.Telegram f)) n (named.Content c) e g =
       let w = chosen (right_way fields) _ _ g in
       content_read f n c e w.0 w.1
-  kind_read (kind.Telegram f) n named.Reserved e g = absurd (fault_fine g)
-  kind_read (kind.Telegram f) n named.Unlisted e g = absurd (fault_fine g)
-  kind_read (kind.Telegram f) n named.Nothing e g = absurd (fault_fine g)
-  kind_read kind.Unknown n x e g = absurd (fault_fine g)
+  kind_read (Some (kind.Telegram f)) n named.Reserved e g = absurd (fault_fine g)
+  kind_read (Some (kind.Telegram f)) n named.Unlisted e g = absurd (fault_fine g)
+  kind_read (Some (kind.Telegram f)) n named.Nothing e g = absurd (fault_fine g)
+  kind_read None n x e g = absurd (fault_fine g)
 
 pub read_as : (fields part before : List ℕ) (version : ℕ) → Bytes fields → verdict_in fields version part ≡ fine
     → let t = bytes_in fields version part in ReadAs (places_in (content_in fields version)) fields part t before (read_in t version)

@@ -1,5 +1,5 @@
 -- 0 means accepted: what the functions of this crate answer is 0 exactly then, and a refusal number of document 01 else.
-use Rattle.std.specs.Prelude.{ℕ, ◌+◌, ◌≡◌, refl, Bool, true, List, length, get_or, Ok, Err}
+use Rattle.std.specs.Prelude.{ℕ, ◌+◌, ◌≡◌, refl, Bool, true, List, length, get_or, Ok, Err, Some, None}
 use Rattle.octets.specs.Choice.{pick}
 use Rattle.octets.proofs.Choice.{through, alike}
 use Rattle.octets.specs.Refusals.{listed, numbered, is_fine, Status}
@@ -15,7 +15,7 @@ use Rattle.service.proofs.Refusals.{verdict_in, reading_numbered, verdict_number
 use Rattle.service.specs.Reading.{Reading}
 use Rattle.fields.specs.Outcome.{status_of}
 use Rattle.fields.proofs.Refusals.{is_written, written_status}
-use Rattle.fields.specs.declared.kinds.Kind.{Kind}
+use Rattle.fields.specs.Kinds.{Kind}
 use Rattle.fields.specs.declared.kinds.Kind.TheVariants as kind
 use Rattle.service_fields.specs.declared.Named.{Named}
 use Rattle.service_fields.specs.declared.Named.TheVariants as named
@@ -59,10 +59,10 @@ named_numbered named.Nothing right f fields part = refl
 
 kind_numbered : (k : Kind) (n : Named) (fields part : List ℕ) → numbered (kind_verdict k n fields part) ≡ true
 unfolding listed
-kind_numbered kind.Confirmation n fields part = refl
-kind_numbered kind.Token n fields part = refl
-kind_numbered (kind.Telegram f) n fields part = simp named_numbered
-kind_numbered kind.Unknown n fields part = refl
+kind_numbered (Some kind.Confirmation) n fields part = refl
+kind_numbered (Some kind.Token) n fields part = refl
+kind_numbered (Some (kind.Telegram f)) n fields part = simp named_numbered
+kind_numbered None n fields part = refl
 
 pub fields_numbered : (fields : List ℕ) (version : ℕ) (part : List ℕ) → numbered (fields-of.verdict_in fields version part) ≡ true
 unfolding listed

@@ -1,6 +1,6 @@
 -- Service telegrams through the C interface. Their fields are eighteen bytes: the service, the way, kind, DA, SA, FC, start and
 -- length of the part, and then ten of the service's own: the fixed bytes of its data in their order, and 0 behind them.
-use Rattle.std.specs.Prelude.{ℕ, ◌+◌, Bool, List, [], length, get_or, ltb, Ok, Err}
+use Rattle.std.specs.Prelude.{ℕ, ◌+◌, Bool, List, [], length, get_or, ltb, Ok, Err, Some, None}
 use Rattle.octets.specs.Choice.{pick}
 use Rattle.octets.specs.Part.{part_of}
 use Rattle.octets.specs.Front.{Verdict, fault, answer_by, held_by, Written}
@@ -18,11 +18,10 @@ use Rattle.service.specs.Reading.{refused, read_of, Reading}
 use Rattle.service.specs.Writing.{verdict_of, telegram_for}
 use Rattle.service.specs.declared.reading.Way.{Way}
 use Rattle.service.specs.declared.reading.Way.TheVariants as way
-use Rattle.fields.specs.Kinds.{format_number, kind_of}
+use Rattle.fields.specs.Kinds.{format_number, kind_of, Kind}
 use Rattle.service_fields.specs.Service.{fields_with, right_way, mode_of, content_in}
 use Rattle.service_fields.specs.declared.Named.{Named}
 use Rattle.service_fields.specs.declared.Named.TheVariants as named
-use Rattle.fields.specs.declared.kinds.Kind.{Kind}
 use Rattle.fields.specs.declared.kinds.Kind.TheVariants as kind
 
 -- ---- the numbers of the fields
@@ -80,16 +79,16 @@ named_bytes named.Nothing f fields part = []
 
 -- a service stands in no short confirmation and in no token
 abbrev pub kind_verdict : Kind → Named → (fields part : List ℕ) → Verdict
-kind_verdict kind.Confirmation n fields part = fault 12
-kind_verdict kind.Token n fields part = fault 12
-kind_verdict (kind.Telegram f) n fields part = named_verdict n (right_way fields) f fields part
-kind_verdict kind.Unknown n fields part = fault 12
+kind_verdict (Some kind.Confirmation) n fields part = fault 12
+kind_verdict (Some kind.Token) n fields part = fault 12
+kind_verdict (Some (kind.Telegram f)) n fields part = named_verdict n (right_way fields) f fields part
+kind_verdict None n fields part = fault 12
 
 abbrev pub kind_bytes : Kind → Named → (fields part : List ℕ) → List ℕ
-kind_bytes kind.Confirmation n fields part = []
-kind_bytes kind.Token n fields part = []
-kind_bytes (kind.Telegram f) n fields part = named_bytes n f fields part
-kind_bytes kind.Unknown n fields part = []
+kind_bytes (Some kind.Confirmation) n fields part = []
+kind_bytes (Some kind.Token) n fields part = []
+kind_bytes (Some (kind.Telegram f)) n fields part = named_bytes n f fields part
+kind_bytes None n fields part = []
 
 -- an unknown version or way comes before all else
 abbrev pub verdict_in : (fields : List ℕ) (version : ℕ) (part : List ℕ) → Verdict

@@ -107,13 +107,13 @@ pub extern "C" fn rabtunex_write_service(
     }
     let kind = kind_of(fields[2]);
     match kind {
-        Kind::Confirmation => Refusal::Field.number(),
-        Kind::Token => Refusal::Field.number(),
-        Kind::Telegram(format) => {
+        Some(Kind::Confirmation) => Refusal::Field.number(),
+        Some(Kind::Token) => Refusal::Field.number(),
+        Some(Kind::Telegram(format)) => {
             let named = service_fields::content_in(fields, version);
             let right = service_fields::right_way(fields);
             store_count(write_named(named, right, format, fields, part, out), stored)
         }
-        Kind::Unknown => Refusal::Field.number(),
+        None => Refusal::Field.number(),
     }
 }

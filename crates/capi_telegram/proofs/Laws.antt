@@ -1,6 +1,6 @@
 -- Fields that were read can be given back, and what was written is read as it was given: over the eight fields that the C
 -- interface has of a telegram, and over the answers and bytes that its calls promise.
-use Rattle.std.specs.Prelude.{ℕ, ◌≤◌, ◌<◌, ◌≡◌, refl, List, [], ◌∷◌, length, get_or, set, Ok}
+use Rattle.std.specs.Prelude.{ℕ, ◌≤◌, ◌<◌, ◌≡◌, refl, List, [], ◌∷◌, length, get_or, set, Ok, Some}
 use Rattle.std.proofs.Common.{sym, ◌∙◌}
 use Rattle.octets.proofs.Choice.{never}
 use Rattle.octets.specs.Bytes.{Bytes}
@@ -55,11 +55,11 @@ fields_read_back fields user out count e before =
 -- ---- how many places each kind has, in plain numbers
 
 pub record Places : Type 0 where
-  pub confirmation : places_of kind.Confirmation ≡ 1
-  pub token : places_of kind.Token ≡ 3
-  pub sd1 : places_of (kind.Telegram Sd1) ≡ 6
-  pub sd2 : places_of (kind.Telegram Sd2) ≡ 6
-  pub sd3 : places_of (kind.Telegram Sd3) ≡ 6
+  pub confirmation : places_of (Some kind.Confirmation) ≡ 1
+  pub token : places_of (Some kind.Token) ≡ 3
+  pub sd1 : places_of (Some (kind.Telegram Sd1)) ≡ 6
+  pub sd2 : places_of (Some (kind.Telegram Sd2)) ≡ 6
+  pub sd3 : places_of (Some (kind.Telegram Sd3)) ≡ 6
 
 pub places_computed : Places
 places_computed = record { confirmation = refl; token = refl; sd1 = refl; sd2 = refl; sd3 = refl }

@@ -15,13 +15,12 @@ use Rattle.fdl.proofs.Refusals.{verdict_in}
 use Rattle.fdl.proofs.Laws.{Again, telegram_reads_back}
 use Rattle.fdl.proofs.Lemmas.Fields.{writable}
 use Rattle.fdl.proofs.Lemmas.Back.{confirmation_back, token_back, user_back}
-use Rattle.fields.specs.Kinds.{kind_of, Numbered}
+use Rattle.fields.specs.Kinds.{kind_of, Numbered, Kind}
 use Rattle.fields.specs.Outcome.{Tells}
 use Rattle.fields.proofs.Refusals.{tells}
 use Rattle.fields.proofs.Laws.{format_named}
 use Rattle.capi_telegram.specs.Telegram.{sap_number, sap_of, refusal_of, fields_after, header_of, without_data, verdict_at, bytes_at, user_in, places_of}
 use Rattle.capi_telegram.proofs.Refusals.{verdict_at_lem, read_telegram_status}
-use Rattle.fields.specs.declared.kinds.Kind.{Kind}
 use Rattle.fields.specs.declared.kinds.Kind.TheVariants as kind
 use Rattle.fdl.specs.declared.telegram.Header.{Header}
 use Rattle.fdl.specs.Sap.{Sap}
@@ -92,16 +91,16 @@ ReadAs places fields user t before r =
 -- what was written is read again
 pub read_as : (fields user before : List ℕ) (k : Kind) → Numbered (get_or fields 0 0) k → verdict_at k fields user ≡ fine
     → let t = bytes_at k fields user in ReadAs (places_of k) fields user t before (read_of t)
-read_as fields user before kind.Confirmation n e =
+read_as fields user before (Some kind.Confirmation) n e =
     rw (confirmation_back class_of, n) (refl, refl, no_part _ ∙ sym (none_given user fine e).0)
-read_as fields user before kind.Token n e =
+read_as fields user before (Some kind.Token) n e =
     let g = none_given user (token_verdict (get_or fields 1 0) (get_or fields 2 0)) e in
     rw (token_back class_of (get_or fields 1 0) (get_or fields 2 0) g.1, n) (refl, refl, no_part _ ∙ sym g.0)
-read_as fields user before (kind.Telegram f) n e =
+read_as fields user before (Some (kind.Telegram f)) n e =
     let h : Header = header_of fields in
     rw (telegram_reads_back class_of f h user e, n, sap_back (get_or fields 4 0), sap_back (get_or fields 5 0))
     (refl, refl, user_back class_of f h user (writable class_of f h user e))
-read_as fields user before kind.Unknown n e = absurd (fault_fine e)
+read_as fields user before None n e = absurd (fault_fine e)
 
 -- no fields are refused with 0
 pub told_fields : (k : Kind) (fields user : List ℕ) → Tells (verdict_at k fields user)

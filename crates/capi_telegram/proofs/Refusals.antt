@@ -1,5 +1,5 @@
 -- 0 means accepted: what the functions of this crate answer is 0 exactly then, and a refusal number of document 01 else.
-use Rattle.std.specs.Prelude.{ℕ, ◌≡◌, refl, true, List, get_or, Ok, Err}
+use Rattle.std.specs.Prelude.{ℕ, ◌≡◌, refl, true, List, get_or, Ok, Err, Some, None}
 use Rattle.octets.proofs.Choice.{through, alike}
 use Rattle.octets.specs.Refusals.{listed, numbered, is_fine, Status}
 use Rattle.octets.proofs.Refusals.{zero_accepted, listed_refused}
@@ -7,10 +7,9 @@ use Rattle.function_code.specs.Code.{class_of}
 use Rattle.fdl.specs.Reading.{read_of, Reading}
 use Rattle.fdl.proofs.Refusals.{verdict_in, reading_numbered, verdict_numbered, token_verdict_numbered}
 use Rattle.fdl.specs.declared.reading.Reading.TheVariants.{Confirmation, Token, Telegram}
-use Rattle.fields.specs.Kinds.{kind_of}
+use Rattle.fields.specs.Kinds.{kind_of, Kind}
 use Rattle.fields.specs.Outcome.{status_of}
 use Rattle.fields.proofs.Refusals.{is_written, written_status}
-use Rattle.fields.specs.declared.kinds.Kind.{Kind}
 use Rattle.fields.specs.declared.kinds.Kind.TheVariants as kind
 use Rattle.capi_telegram.specs.Telegram.{refusal_of, header_of, verdict_at, bytes_at, answer_of}
 
@@ -29,10 +28,10 @@ read_telegram_status s = status_by (read_of s) (reading_numbered class_of s)
 
 pub verdict_at_lem : (k : Kind) (fields user : List ℕ) → numbered (verdict_at k fields user) ≡ true
 unfolding listed
-verdict_at_lem kind.Confirmation fields user = simp (through numbered, alike)
-verdict_at_lem kind.Token fields user = simp (through numbered, alike, token_verdict_numbered)
-verdict_at_lem (kind.Telegram f) fields user = verdict_numbered class_of f (header_of fields) user
-verdict_at_lem kind.Unknown fields user = refl
+verdict_at_lem (Some kind.Confirmation) fields user = simp (through numbered, alike)
+verdict_at_lem (Some kind.Token) fields user = simp (through numbered, alike, token_verdict_numbered)
+verdict_at_lem (Some (kind.Telegram f)) fields user = verdict_numbered class_of f (header_of fields) user
+verdict_at_lem None fields user = refl
 
 module _ (fields user : List ℕ) (room : ℕ) where
   abbrev named : Kind

@@ -7,8 +7,7 @@ use Rattle.octets.specs.Front.{Verdict, fine, fault, answer_by, held_by, Written
 use Rattle.fdl.specs.Writing.{telegram_of, verdict_of, token_bytes, token_verdict, confirmation_bytes}
 use Rattle.fdl.specs.declared.telegram.Header.{Header}
 use Rattle.fdl.specs.Sap.{Sap}
-use Rattle.fields.specs.Kinds.{confirmation_number, token_number, format_number, kind_of}
-use Rattle.fields.specs.declared.kinds.Kind.{Kind}
+use Rattle.fields.specs.Kinds.{confirmation_number, token_number, format_number, kind_of, Kind}
 use Rattle.fields.specs.declared.kinds.Kind.TheVariants as kind
 use Rattle.fdl.specs.Reading.{Reading}
 use Rattle.fdl.specs.declared.reading.Reading.TheVariants.{Confirmation, Token, Telegram}
@@ -62,16 +61,16 @@ abbrev pub without_data : (user : List ℕ) → Verdict → Verdict
 without_data user v = pick (eqb (length user) 0) v (fault 12)
 
 abbrev pub verdict_at : Kind → (fields user : List ℕ) → Verdict
-verdict_at kind.Confirmation fields user = without_data user fine
-verdict_at kind.Token fields user = without_data user (token_verdict (get_or fields 1 0) (get_or fields 2 0))
-verdict_at (kind.Telegram f) fields user = verdict_of f (header_of fields) user
-verdict_at kind.Unknown fields user = fault 12
+verdict_at (Some kind.Confirmation) fields user = without_data user fine
+verdict_at (Some kind.Token) fields user = without_data user (token_verdict (get_or fields 1 0) (get_or fields 2 0))
+verdict_at (Some (kind.Telegram f)) fields user = verdict_of f (header_of fields) user
+verdict_at None fields user = fault 12
 
 abbrev pub bytes_at : Kind → (fields user : List ℕ) → List ℕ
-bytes_at kind.Confirmation fields user = confirmation_bytes
-bytes_at kind.Token fields user = token_bytes (get_or fields 1 0) (get_or fields 2 0)
-bytes_at (kind.Telegram f) fields user = telegram_of f (header_of fields) user
-bytes_at kind.Unknown fields user = []
+bytes_at (Some kind.Confirmation) fields user = confirmation_bytes
+bytes_at (Some kind.Token) fields user = token_bytes (get_or fields 1 0) (get_or fields 2 0)
+bytes_at (Some (kind.Telegram f)) fields user = telegram_of f (header_of fields) user
+bytes_at None fields user = []
 
 abbrev pub answer_of : (fields user : List ℕ) (room : ℕ) → Written
 answer_of fields user room = answer_by (verdict_at (kind_of (get_or fields 0 0)) fields user) (bytes_at (kind_of (get_or fields 0 0)) fields user) room
@@ -87,7 +86,7 @@ user_in s fields = part_of s (get_or fields 6 0) (get_or fields 7 0)
 
 -- how many of the fields a kind has, from the first on: the kind alone; DA and SA; FC, DSAP and SSAP
 abbrev pub places_of : Kind → ℕ
-places_of kind.Confirmation = 1
-places_of kind.Token = 3
-places_of (kind.Telegram f) = 6
-places_of kind.Unknown = 0
+places_of (Some kind.Confirmation) = 1
+places_of (Some kind.Token) = 3
+places_of (Some (kind.Telegram f)) = 6
+places_of None = 0

@@ -94,25 +94,30 @@ fn header_of(fields: &[u8; 8]) -> Header
 }
 
 #[tactic(auto, unfolding(octets::specs::Front::answer_by, octets::specs::Front::held_by))]
-fn write_kind(kind: Kind, fields: &[u8; 8], user: &[u8], out: &mut [u8]) -> Result<usize, Refusal>
+fn write_kind(
+    kind: Option<Kind>,
+    fields: &[u8; 8],
+    user: &[u8],
+    out: &mut [u8],
+) -> Result<usize, Refusal>
     ensures answer { told result ≡ answer_by (verdict_at kind fields.now user.now) (bytes_at kind fields.now user.now) (length out.old) }
     ensures bytes { out.new ≡ held_by (verdict_at kind fields.now user.now) (bytes_at kind fields.now user.now) out.old }
 {
     match kind {
-        Kind::Confirmation => {
+        Some(Kind::Confirmation) => {
             if user.len() != 0 {
                 return Err(Refusal::Field);
             }
             framing::write_confirmation(out)
         }
-        Kind::Token => {
+        Some(Kind::Token) => {
             if user.len() != 0 {
                 return Err(Refusal::Field);
             }
             framing::write_token(fields[1], fields[2], out)
         }
-        Kind::Telegram(format) => fdl_writer::write(format, header_of(fields), user, out),
-        Kind::Unknown => Err(Refusal::Field),
+        Some(Kind::Telegram(format)) => fdl_writer::write(format, header_of(fields), user, out),
+        None => Err(Refusal::Field),
     }
 }
 

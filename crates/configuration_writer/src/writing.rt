@@ -25,10 +25,7 @@ fn present(side: Side) -> u8
 fn good_units(most: u8, units: u8) -> bool
     ensures { result ≡ good_units most units }
 {
-    if units == 0 {
-        return false;
-    }
-    units <= most
+    (1..=most).contains(&units)
 }
 
 fn good_side(most: u8, side: Side) -> bool
@@ -68,18 +65,7 @@ fn good_general(input: Side, output: Side) -> bool
                 units: n,
                 words: w,
                 consistent: c,
-            } => {
-                if n != units {
-                    return false;
-                }
-                if w != words {
-                    return false;
-                }
-                if c != consistent {
-                    return false;
-                }
-                good_units(16, units)
-            }
+            } => n == units && w == words && c == consistent && good_units(16, units),
         },
     }
 }

@@ -62,10 +62,7 @@ pub fn write_module(map: &[u8], out: &mut [u8]) -> Result<usize, Refusal>
 fn fits_byte(high: u8, top: u8, low: u8, bottom: u8) -> bool
     ensures { result ≡ fits high top low bottom }
 {
-    if top < high {
-        return false;
-    }
-    low <= bottom
+    high <= top && low <= bottom
 }
 
 // Writes a channel block: of each byte the fields must fit, and then its codes be in use.

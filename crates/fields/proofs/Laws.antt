@@ -1,5 +1,5 @@
 -- A telegram's kind and its number name each other, and what an answer of 0 says of a writer.
-use Rattle.std.specs.Prelude.{ℕ, ◌≡◌, refl, Bool, true, false, List, length, drop, eqb, leb, Ok, Err}
+use Rattle.std.specs.Prelude.{ℕ, ◌≡◌, refl, Bool, true, false, List, length, drop, eqb, leb, Ok, Err, Some}
 use Rattle.std.proofs.Common.{arith, eqb-true}
 use Rattle.std.proofs.Math.Seq.{take-append_seam}
 use Rattle.std.proofs.lemmas.Bool.{eqb-false}
@@ -8,15 +8,14 @@ use Rattle.octets.proofs.Choice.{by_pick}
 use Rattle.octets.specs.Front.{Verdict, fine, fault, over, answer_by, held_by}
 use Rattle.fdl.specs.declared.telegram.Format.{Format}
 use Rattle.fdl.specs.declared.telegram.Format.TheVariants.{Sd1, Sd2, Sd3}
-use Rattle.fields.specs.Kinds.{format_number, kind_of, Numbered}
+use Rattle.fields.specs.Kinds.{format_number, kind_of, Numbered, Kind}
 use Rattle.fields.specs.Outcome.{status_of, Tells, stored_by}
-use Rattle.fields.specs.declared.kinds.Kind.{Kind}
 use Rattle.fields.specs.declared.kinds.Kind.TheVariants as kind
 
 -- ---- kinds
 
 -- A format's number names that format.
-pub format_named : (f : Format) → kind_of (format_number f) ≡ kind.Telegram f
+pub format_named : (f : Format) → kind_of (format_number f) ≡ Some (kind.Telegram f)
 format_named Sd1 = refl
 format_named Sd2 = refl
 format_named Sd3 = refl

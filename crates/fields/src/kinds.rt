@@ -4,13 +4,12 @@ ghost use Rattle.fields.specs.Kinds.{format_number, kind_of};
 
 use fdl::Format;
 
-// Which telegram a number names.
+// The telegrams that numbers name.
 #[derive(Drop)]
 pub enum Kind {
     Confirmation,
     Token,
     Telegram(Format),
-    Unknown,
 }
 
 pub fn format_number(format: Format) -> u8
@@ -23,15 +22,16 @@ pub fn format_number(format: Format) -> u8
     }
 }
 
-pub fn kind_of(number: u8) -> Kind
+// Which telegram a number names, if it names one.
+pub fn kind_of(number: u8) -> Option<Kind>
     ensures { result ≡ kind_of number }
 {
     match number {
-        0 => Kind::Confirmation,
-        1 => Kind::Token,
-        2 => Kind::Telegram(Format::Sd1),
-        3 => Kind::Telegram(Format::Sd2),
-        4 => Kind::Telegram(Format::Sd3),
-        _ => Kind::Unknown,
+        0 => Some(Kind::Confirmation),
+        1 => Some(Kind::Token),
+        2 => Some(Kind::Telegram(Format::Sd1)),
+        3 => Some(Kind::Telegram(Format::Sd2)),
+        4 => Some(Kind::Telegram(Format::Sd3)),
+        _ => None,
     }
 }

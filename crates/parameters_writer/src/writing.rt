@@ -34,15 +34,7 @@ fn good_extension(extension: Extension) -> bool
             status1,
             status2,
             status3,
-        } => {
-            if !good_status1(status1) {
-                return false;
-            }
-            if !good_status2(status2) {
-                return false;
-            }
-            good_status3(status3)
-        }
+        } => good_status1(status1) && good_status2(status2) && good_status3(status3),
     }
 }
 

@@ -46,9 +46,8 @@ use Rattle.access.specs.declared.route.Route.TheVariants as route
 use Rattle.content.specs.Fields.{Fits}
 use Rattle.content.specs.declared.fields.Content.{Content}
 use Rattle.content.specs.declared.fields.Content.TheVariants as content
-use Rattle.acyclic_fields.specs.Four.{call_four, answer_four, call_named, answer_named, call_places, answer_places}
+use Rattle.acyclic_fields.specs.Four.{call_four, answer_four, call_named, answer_named, call_places, answer_places, Case}
 use Rattle.acyclic_fields.proofs.Laws.{call_four_named, call_named_four, call_named_no_answer, answer_four_named, answer_named_four, answer_named_no_call}
-use Rattle.acyclic_fields.specs.declared.four.Case.{Case}
 use Rattle.acyclic_fields.specs.declared.four.Case.TheVariants as case
 use Rattle.service_fields.specs.Service.{content_bytes, content_number, fields_with, content_places, is_answer, WayFits, right_way, named_by, dpv1_in, address_in, diagnosis_in, mode_of, parameters_in, content_by, content_in}
 use Rattle.service_fields.specs.declared.Named.{Named}
@@ -169,7 +168,7 @@ module _ (fields : List ℕ) (version : ℕ) (b : Bytes fields) where
 
   -- ---- DPV1
 
-  own_call : (c : Call) → call_named (get_or fields 8 0) (get_or fields 9 0) (get_or fields 10 0) (get_or fields 11 0) ≡ case.Call c
+  own_call : (c : Call) → call_named (get_or fields 8 0) (get_or fields 9 0) (get_or fields 10 0) (get_or fields 11 0) ≡ Some (case.Call c)
       → elements (call_places c) 8 fields ≡ take (call_places c) (call_four c)
   own_call call.Poll e = sym (call_named_four _ _ _ _ e)
   own_call (call.Read slot index l) e = sym (call_named_four _ _ _ _ e)
@@ -178,7 +177,7 @@ module _ (fields : List ℕ) (version : ℕ) (b : Bytes fields) where
   own_call call.Idle e = sym (call_named_four _ _ _ _ e)
   own_call (call.Transport slot index) e = sym (call_named_four _ _ _ _ e)
 
-  own_answer : (x : Answer) → answer_named (get_or fields 8 0) (get_or fields 9 0) (get_or fields 10 0) (get_or fields 11 0) ≡ case.Answer x
+  own_answer : (x : Answer) → answer_named (get_or fields 8 0) (get_or fields 9 0) (get_or fields 10 0) (get_or fields 11 0) ≡ Some (case.Answer x)
       → elements (answer_places x) 8 fields ≡ take (answer_places x) (answer_four x)
   own_answer (answer.Read slot index) e = sym (answer_named_four _ _ _ _ e)
   own_answer (answer.Write slot index l) e = sym (answer_named_four _ _ _ _ e)
@@ -190,15 +189,15 @@ module _ (fields : List ℕ) (version : ℕ) (b : Bytes fields) where
   module _ (n : get_or fields 0 0 ≡ 51) where
     call_in_lem : is_answer (class_of (get_or fields 5 0)) ≡ false → (k : Case) → call_named (get_or fields 8 0) (get_or fields 9 0) (get_or fields 10 0) (get_or fields 11 0) ≡ k
         → NamesIn (named_by k)
-    call_in_lem w (case.Call c) e = record { service = n; own = own_call c e; way = w; fits = (tt, tt) }
-    call_in_lem w (case.Answer x) e = absurd (call_named_no_answer _ _ _ _ e)
-    call_in_lem w case.Unknown e = tt
+    call_in_lem w (Some (case.Call c)) e = record { service = n; own = own_call c e; way = w; fits = (tt, tt) }
+    call_in_lem w (Some (case.Answer x)) e = absurd (call_named_no_answer _ _ _ _ e)
+    call_in_lem w None e = tt
 
     answer_in_lem : is_answer (class_of (get_or fields 5 0)) ≡ true → (k : Case) → answer_named (get_or fields 8 0) (get_or fields 9 0) (get_or fields 10 0) (get_or fields 11 0) ≡ k
         → NamesIn (named_by k)
-    answer_in_lem w (case.Call c) e = absurd (answer_named_no_call _ _ _ _ e)
-    answer_in_lem w (case.Answer x) e = record { service = n; own = own_answer x e; way = w; fits = (tt, tt) }
-    answer_in_lem w case.Unknown e = tt
+    answer_in_lem w (Some (case.Call c)) e = absurd (answer_named_no_call _ _ _ _ e)
+    answer_in_lem w (Some (case.Answer x)) e = record { service = n; own = own_answer x e; way = w; fits = (tt, tt) }
+    answer_in_lem w None e = tt
 
     dpv1_names : NamesIn (dpv1_in fields)
     unfolding dpv1_in

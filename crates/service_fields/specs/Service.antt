@@ -1,7 +1,7 @@
 -- Services by their own fields: the service's number, which is its access point at the slave, and ten places that hold the fixed bytes of
 -- its data in their order, and 0 behind them. Fields that are to be written are eighteen: FC is the sixth, and the service's own are
 -- the last ten.
-use Rattle.std.specs.Prelude.{ℕ, ◌≡◌, Bool, true, false, List, [], ◌∷◌, get_or, eqb, ltb}
+use Rattle.std.specs.Prelude.{ℕ, ◌≡◌, Bool, true, false, List, [], ◌∷◌, get_or, eqb, ltb, Some, None}
 use Rattle.octets.specs.Choice.{pick}
 use Rattle.octets.specs.Number.{number_of}
 use Rattle.octets.specs.Places.{places_of}
@@ -25,8 +25,7 @@ use Rattle.access.specs.declared.table.Service.TheVariants as service
 use Rattle.content.specs.Fields.{service_of}
 use Rattle.content.specs.declared.fields.Content.{Content}
 use Rattle.content.specs.declared.fields.Content.TheVariants as content
-use Rattle.acyclic_fields.specs.Four.{call_four, answer_four, call_named, answer_named, call_places, answer_places}
-use Rattle.acyclic_fields.specs.declared.four.Case.{Case}
+use Rattle.acyclic_fields.specs.Four.{call_four, answer_four, call_named, answer_named, call_places, answer_places, Case}
 use Rattle.acyclic_fields.specs.declared.four.Case.TheVariants as case
 use Rattle.service_fields.specs.declared.Own.{Own}
 use Rattle.service_fields.specs.declared.Named.{Named}
@@ -120,9 +119,9 @@ unfoldable pub right_way : (fields : List ℕ) → Bool
 right_way fields = pick (is_answer (class_of (get_or fields 5 0))) (eqb (get_or fields 1 0) 1) (eqb (get_or fields 1 0) 0)
 
 abbrev pub named_by : Case → Named
-named_by (case.Call c) = named.Content (content.Dpv1Call c)
-named_by (case.Answer x) = named.Content (content.Dpv1Answer x)
-named_by case.Unknown = named.Reserved
+named_by (Some (case.Call c)) = named.Content (content.Dpv1Call c)
+named_by (Some (case.Answer x)) = named.Content (content.Dpv1Answer x)
+named_by None = named.Reserved
 
 unfoldable pub dpv1_in : (fields : List ℕ) → Named
 dpv1_in fields =

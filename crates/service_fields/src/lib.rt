@@ -166,13 +166,13 @@ pub fn right_way(fields: &[u8; 18]) -> bool
     fields[1] == 0
 }
 
-fn named_by(case: Case) -> Named
+fn named_by(case: Option<Case>) -> Named
     ensures { result ≡ named_by case }
 {
     match case {
-        Case::Call(call) => Named::Content(Content::Dpv1Call(call)),
-        Case::Answer(answer) => Named::Content(Content::Dpv1Answer(answer)),
-        Case::Unknown => Named::Reserved,
+        Some(Case::Call(call)) => Named::Content(Content::Dpv1Call(call)),
+        Some(Case::Answer(answer)) => Named::Content(Content::Dpv1Answer(answer)),
+        None => Named::Reserved,
     }
 }
 

@@ -17,10 +17,7 @@ use typed::{
 fn good_code(code: u8) -> bool
     ensures { result ≡ good_code code }
 {
-    if code == 0 {
-        return false;
-    }
-    code <= FLOATING_POINT
+    1 <= code && code <= FLOATING_POINT
 }
 
 // How many bytes follow a code.
@@ -43,13 +40,7 @@ fn width(code: u8) -> usize
 fn good_boolean(code: u8, first: u8) -> bool
     ensures { result ≡ good_boolean code first }
 {
-    if code != BOOLEAN {
-        return true;
-    }
-    if first == 0 {
-        return true;
-    }
-    first == 0xFF
+    code != BOOLEAN || first == 0 || first == 0xFF
 }
 
 // The number of the two bytes behind the code.

@@ -1,5 +1,5 @@
 -- Both ways between an answer and its six fields.
-use Rattle.std.specs.Prelude.{ℕ, ◌≡◌, refl, List, length, Ok, Err}
+use Rattle.std.specs.Prelude.{ℕ, ◌≡◌, refl, List, length, Ok, Err, Some, None}
 use Rattle.std.proofs.Common.{◌∙◌}
 use Rattle.octets.specs.Elements.{elements}
 use Rattle.octets.specs.Part.{part_of}
@@ -10,9 +10,8 @@ use Rattle.acyclic.proofs.Laws.{answer_reads_back, answer_writes_back}
 use Rattle.acyclic.specs.declared.answers.Answer.{Answer}
 use Rattle.acyclic.specs.declared.answers.Answer.TheVariants as answer
 use Rattle.acyclic.specs.Answers.{AnswerReading}
-use Rattle.acyclic_fields.specs.Four.{answer_four, answer_places, places_in}
+use Rattle.acyclic_fields.specs.Four.{answer_four, answer_places, places_in, Case}
 use Rattle.acyclic_fields.proofs.Laws.{answer_four_named, answer_named_four, answer_named_no_call}
-use Rattle.acyclic_fields.specs.declared.four.Case.{Case}
 use Rattle.acyclic_fields.specs.declared.four.Case.TheVariants as case
 use Rattle.capi_acyclic.specs.Acyclic.{all_fields, answer_refusal, answer_after, answer_in, verdict_at, bytes_at, part_in}
 use Rattle.capi_acyclic.proofs.Lemmas.Told.{AnswerTells}
@@ -21,7 +20,7 @@ use Rattle.capi_acyclic.proofs.Lemmas.Told.{AnswerTells}
 
 -- the six fields of an answer name it, and its data
 again : (s : List ℕ) (x : Answer) (start len : ℕ) → let fields = all_fields (answer_four x) start len in
-    (answer_in fields ≡ case.Answer x) × (part_in s fields ≡ part_of s start len)
+    (answer_in fields ≡ Some (case.Answer x)) × (part_in s fields ≡ part_of s start len)
 again s (answer.Read slot index) start len = (answer_four_named (answer.Read slot index), refl)
 again s (answer.Write slot index l) start len = (answer_four_named (answer.Write slot index l), refl)
 again s (answer.AlarmAck slot alarm specifier) start len = (answer_four_named (answer.AlarmAck slot alarm specifier), refl)
@@ -40,7 +39,7 @@ writes s before (Err r) e t z = absurd (t z)
 -- ---- from the fields
 
 -- an answer's four are the fields that named it, in every place that it has
-same : (fields : List ℕ) (x : Answer) (start len : ℕ) → answer_in fields ≡ case.Answer x
+same : (fields : List ℕ) (x : Answer) (start len : ℕ) → answer_in fields ≡ Some (case.Answer x)
     → elements (answer_places x) 0 (all_fields (answer_four x) start len) ≡ elements (answer_places x) 0 fields
 same fields (answer.Read slot index) start len e = answer_named_four _ _ _ _ e
 same fields (answer.Write slot index l) start len e = answer_named_four _ _ _ _ e
@@ -57,10 +56,10 @@ ReadAs places fields part t before r =
 -- what was written is read again
 pub reads : (fields part before : List ℕ) (k : Case) → answer_in fields ≡ k → verdict_at k part ≡ fine
     → let t = bytes_at k part in ReadAs (places_in k) fields part t before (answers.read_answer_of t)
-reads fields part before (case.Answer x) e v =
+reads fields part before (Some (case.Answer x)) e v =
     let r = answer_reads_back x part v in
     let t = answers.bytes_for x part in
     let start = length (answers.fixed_bytes x (length part)) in
     rw r.0 (refl, same fields x start (length part) e, (again t x start (length part)).1 ∙ r.1)
-reads fields part before (case.Call c) e v = absurd (answer_named_no_call _ _ _ _ e)
-reads fields part before case.Unknown e v = absurd (fault_fine v)
+reads fields part before (Some (case.Call c)) e v = absurd (answer_named_no_call _ _ _ _ e)
+reads fields part before None e v = absurd (fault_fine v)

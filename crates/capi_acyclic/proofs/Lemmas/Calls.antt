@@ -1,5 +1,5 @@
 -- Both ways between a call and its six fields.
-use Rattle.std.specs.Prelude.{ℕ, ◌≡◌, refl, List, length, Ok, Err}
+use Rattle.std.specs.Prelude.{ℕ, ◌≡◌, refl, List, length, Ok, Err, Some, None}
 use Rattle.std.proofs.Common.{◌∙◌}
 use Rattle.octets.specs.Elements.{elements}
 use Rattle.octets.specs.Part.{part_of}
@@ -10,9 +10,8 @@ use Rattle.acyclic.proofs.Laws.{call_reads_back, call_writes_back}
 use Rattle.acyclic.specs.declared.calls.Call.{Call}
 use Rattle.acyclic.specs.declared.calls.Call.TheVariants as call
 use Rattle.acyclic.specs.Calls.{CallReading}
-use Rattle.acyclic_fields.specs.Four.{call_four, call_places, places_in}
+use Rattle.acyclic_fields.specs.Four.{call_four, call_places, places_in, Case}
 use Rattle.acyclic_fields.proofs.Laws.{call_four_named, call_named_four, call_named_no_answer}
-use Rattle.acyclic_fields.specs.declared.four.Case.{Case}
 use Rattle.acyclic_fields.specs.declared.four.Case.TheVariants as case
 use Rattle.capi_acyclic.specs.Acyclic.{all_fields, call_refusal, call_after, call_in, verdict_at, bytes_at, part_in}
 use Rattle.capi_acyclic.proofs.Lemmas.Told.{CallTells}
@@ -21,7 +20,7 @@ use Rattle.capi_acyclic.proofs.Lemmas.Told.{CallTells}
 
 -- the six fields of a call name it, and its data
 again : (s : List ℕ) (c : Call) (start len : ℕ) → let fields = all_fields (call_four c) start len in
-    (call_in fields ≡ case.Call c) × (part_in s fields ≡ part_of s start len)
+    (call_in fields ≡ Some (case.Call c)) × (part_in s fields ≡ part_of s start len)
 again s call.Poll start len = (call_four_named call.Poll, refl)
 again s (call.Read slot index l) start len = (call_four_named (call.Read slot index l), refl)
 again s (call.Write slot index) start len = (call_four_named (call.Write slot index), refl)
@@ -40,7 +39,7 @@ writes s before (Err r) e t z = absurd (t z)
 -- ---- from the fields
 
 -- a call's four are the fields that named it, in every place that it has
-same : (fields : List ℕ) (c : Call) (start len : ℕ) → call_in fields ≡ case.Call c
+same : (fields : List ℕ) (c : Call) (start len : ℕ) → call_in fields ≡ Some (case.Call c)
     → elements (call_places c) 0 (all_fields (call_four c) start len) ≡ elements (call_places c) 0 fields
 same fields call.Poll start len e = call_named_four _ _ _ _ e
 same fields (call.Read slot index l) start len e = call_named_four _ _ _ _ e
@@ -57,10 +56,10 @@ ReadAs places fields part t before r =
 -- what was written is read again
 pub reads : (fields part before : List ℕ) (k : Case) → call_in fields ≡ k → verdict_at k part ≡ fine
     → let t = bytes_at k part in ReadAs (places_in k) fields part t before (calls.read_call_of t)
-reads fields part before (case.Call c) e v =
+reads fields part before (Some (case.Call c)) e v =
     let r = call_reads_back c part v in
     let t = calls.bytes_for c part in
     let start = length (calls.fixed_bytes c (length part)) in
     rw r.0 (refl, same fields c start (length part) e, (again t c start (length part)).1 ∙ r.1)
-reads fields part before (case.Answer x) e v = absurd (call_named_no_answer _ _ _ _ e)
-reads fields part before case.Unknown e v = absurd (fault_fine v)
+reads fields part before (Some (case.Answer x)) e v = absurd (call_named_no_answer _ _ _ _ e)
+reads fields part before None e v = absurd (fault_fine v)

@@ -4,7 +4,7 @@ use Rattle.acyclic.proofs.Refusals as acyclic
 use Rattle.acyclic.specs.Refusals as acyclic_words
 use Rattle.acyclic.specs.Calls.{read_call_of, CallReading}
 use Rattle.acyclic.specs.Answers.{read_answer_of, AnswerReading}
-use Rattle.acyclic_fields.specs.declared.four.Case.{Case}
+use Rattle.acyclic_fields.specs.Four.{Case}
 use Rattle.fields.specs.Outcome.{Tells}
 use Rattle.fields.proofs.Refusals.{tells}
 use Rattle.capi_acyclic.specs.Acyclic.{verdict_at}
