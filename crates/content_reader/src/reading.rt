@@ -40,13 +40,15 @@ fn read_empty(content: Content, user: &[u8]) -> Result<Read<Content>, Refusal>
 fn read_address(user: &[u8]) -> Result<Read<Content>, Refusal>
     ensures { told result ≡ address_of user.now }
 {
-    Ok(address_change::read_address_change(user)?.map(|fields| Content::SetSlaveAdr(fields)))
+    let read = address_change::read_address_change(user)?;
+    Ok(read.with(Content::SetSlaveAdr(read.fields)))
 }
 
 fn read_command(user: &[u8]) -> Result<Read<Content>, Refusal>
     ensures { told result ≡ command_of user.now }
 {
-    Ok(control::read_global_command(user)?.map(|fields| Content::GlobalControl(fields)))
+    let read = control::read_global_command(user)?;
+    Ok(read.with(Content::GlobalControl(read.fields)))
 }
 
 // The blocks stand behind the six bytes of the header.
@@ -64,7 +66,8 @@ fn read_diagnosis(user: &[u8]) -> Result<Read<Content>, Refusal>
 fn read_parameters(user: &[u8], mode: Mode) -> Result<Read<Content>, Refusal>
     ensures { told result ≡ parameters_of user.now mode }
 {
-    Ok(parameters_reader::read(user, mode)?.map(|fields| Content::SetPrm(fields)))
+    let read = parameters_reader::read(user, mode)?;
+    Ok(read.with(Content::SetPrm(read.fields)))
 }
 
 // A configuration is all of its bytes: its modules are walked over there.
@@ -82,13 +85,15 @@ fn read_configuration(content: Content, user: &[u8]) -> Result<Read<Content>, Re
 fn read_dpv1_call(user: &[u8]) -> Result<Read<Content>, Refusal>
     ensures { told result ≡ dpv1_call_of user.now }
 {
-    Ok(acyclic_reader::read_call(user)?.map(|fields| Content::Dpv1Call(fields)))
+    let read = acyclic_reader::read_call(user)?;
+    Ok(read.with(Content::Dpv1Call(read.fields)))
 }
 
 fn read_dpv1_answer(user: &[u8]) -> Result<Read<Content>, Refusal>
     ensures { told result ≡ dpv1_answer_of user.now }
 {
-    Ok(acyclic_reader::read_answer(user)?.map(|fields| Content::Dpv1Answer(fields)))
+    let read = acyclic_reader::read_answer(user)?;
+    Ok(read.with(Content::Dpv1Answer(read.fields)))
 }
 
 // Reads the user data of a call.

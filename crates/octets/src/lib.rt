@@ -28,18 +28,16 @@ pub struct Read<T> {
     pub len: usize,
 }
 
-impl<T> Read<T> {
-    // The same bytes, whose fields are part of more.
-    pub fn map<U, F: FnOnce(T) -> U>(self, within: F) -> Read<U>
-        requires { F.IsAlwaysCallable within }
-        ensures fields { F.post within self.fields result.fields }
+impl<T: Drop> Read<T> {
+    // The same bytes, behind these fields.
+    pub fn with<U>(self, fields: U) -> Read<U>
+        ensures fields { result.fields ≡ fields }
         ensures bytes { (result.start ≡ self.start) × (result.len ≡ self.len) }
     {
-        let Read { fields, start, len } = self;
         Read {
-            fields: within(fields),
-            start,
-            len,
+            fields,
+            start: self.start,
+            len: self.len,
         }
     }
 }
