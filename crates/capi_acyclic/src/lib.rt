@@ -8,7 +8,7 @@ ghost use Rattle.fields.specs.Outcome.{status_of, count_after};
 ghost use Rattle.capi_acyclic.specs.Acyclic.{call_refusal, answer_refusal, call_after, answer_after, call_in, answer_in, answer_of, held_of};
 
 use acyclic_fields::Case;
-use fields::store_count;
+use fields::{store_count, told};
 use octets::{Read, Refusal};
 
 // Reads a call into its fields.
@@ -72,9 +72,12 @@ fn write_case(case: Option<Case>, part: &[u8], out: &mut [u8], stored: &mut usiz
     ensures count { stored.new ≡ count_after (answer_of case part.now (length out.old)) stored.old }
 {
     match case {
-        Some(Case::Call(call)) => store_count(acyclic_writer::write_call(call, part, out), stored),
+        Some(Case::Call(call)) => store_count(
+            told(acyclic_writer::write_call(call, part, out)),
+            stored,
+        ),
         Some(Case::Answer(answer)) => store_count(
-            acyclic_writer::write_answer(answer, part, out),
+            told(acyclic_writer::write_answer(answer, part, out)),
             stored,
         ),
         None => Refusal::Dpv1Code.number(),

@@ -8,7 +8,7 @@ ghost use Rattle.fields.specs.Outcome.{status_of, count_after};
 ghost use Rattle.capi_book.specs.Book.{refusal_of, templates_after, template_refusal, fields_after, answer_of, held_of};
 
 use book::Template;
-use fields::store_count;
+use fields::{store_count, told};
 
 // Reads a book, and stores how many templates it has.
 #[unsafe(no_mangle)]
@@ -53,5 +53,8 @@ pub extern "C" fn rabtunex_write_book(
     ensures bytes { out.new ≡ held_of slots.now lengths.now bodies.now out.old }
     ensures count { stored.new ≡ count_after (answer_of slots.now lengths.now bodies.now (length out.old)) stored.old }
 {
-    store_count(book_writer::write(slots, lengths, bodies, out), stored)
+    store_count(
+        told(book_writer::write(slots, lengths, bodies, out)),
+        stored,
+    )
 }

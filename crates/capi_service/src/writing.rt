@@ -1,6 +1,5 @@
 // Service telegrams through the C interface: writing one from its fields.
 ghost use Rattle.std.specs.Prelude.{◌≡◌, ◌+◌, length};
-ghost use Rattle.octets.specs.Refusals.{number, told};
 ghost use Rattle.octets.specs.Choice.{pick};
 ghost use Rattle.octets.specs.Front.{answer_by, held_by};
 ghost use Rattle.access.specs.Route.{service_route};
@@ -9,43 +8,43 @@ ghost use Rattle.capi_service.specs.Service.{lacking_number, reserved_by, named_
 
 use access::{Route, Service};
 use fdl::Format;
-use fields::{Kind, kind_of, store_count};
+use fields::{Kind, kind_of, store_count, told};
 use octets::Refusal;
 use service_fields::Named;
 
 // The refusal of fields that name no service, or not that way: what the telegram's fields say comes first, with
 // fixed bytes of the service's own and len of the part; then the number.
 #[tactic(auto, unfolding(crate::specs::Service::lacking_number))]
-fn lacking(
+fn lacking_number(
     format: Format,
     service: Service,
     fields: &[u8; 18],
     fixed: usize,
     len: usize,
-    refusal: Refusal,
-) -> Refusal
-    ensures { number result ≡ lacking_number format service fields.now (fixed + len) (number refusal) }
+    number: u8,
+) -> u8
+    ensures { result ≡ lacking_number format service fields.now (fixed + len) number }
 {
     let header = routing::header_of(service, fields[3], fields[4], fields[5]);
     if framing::writable_with(format, header, fixed, len) {
-        refusal
+        number
     } else {
-        Refusal::Field
+        Refusal::Field.number()
     }
 }
 
 // The refusal of a DPV1 number that the way does not have.
-fn reserved(right: bool, fc: u8) -> Refusal
-    ensures { number result ≡ pick right (reserved_by (service_route Service.Dpv1 fc)) 10 }
+fn reserved_number(right: bool, fc: u8) -> u8
+    ensures { result ≡ pick right (reserved_by (service_route Service.Dpv1 fc)) 10 }
 {
     if !right {
-        return Refusal::NoService;
+        return Refusal::NoService.number();
     }
     let route = routing::route_for(Service::Dpv1, fc);
     match route {
-        Route::Nowhere => Refusal::NoService,
-        Route::Call(_) => Refusal::Dpv1Code,
-        Route::Answer(_) => Refusal::Dpv1Code,
+        Route::Nowhere => Refusal::NoService.number(),
+        Route::Call(_) => Refusal::Dpv1Code.number(),
+        Route::Answer(_) => Refusal::Dpv1Code.number(),
     }
 }
 
@@ -58,30 +57,32 @@ fn write_named(
     fields: &[u8; 18],
     part: &[u8],
     out: &mut [u8],
-) -> Result<usize, Refusal>
-    ensures answer { told result ≡ answer_by (named_verdict named right format fields.now part.now) (named_bytes named format fields.now part.now) (length out.old) }
+) -> Result<usize, u8>
+    ensures answer { result ≡ answer_by (named_verdict named right format fields.now part.now) (named_bytes named format fields.now part.now) (length out.old) }
     ensures bytes { out.new ≡ held_by (named_verdict named right format fields.now part.now) (named_bytes named format fields.now part.now) out.old }
 {
     let len = part.len();
+    let no_service = Refusal::NoService.number();
     match named {
         Named::Content(content) => {
             if right {
-                return service_writer::write(
+                return told(service_writer::write(
                     format, fields[3], fields[4], fields[5], content, part, out,
-                );
+                ));
             }
             let service = content::service_of(content);
             let fixed = content::fixed_length(content);
-            Err(lacking(format, service, fields, fixed, len, Refusal::NoService))
+            Err(lacking_number(format, service, fields, fixed, len, no_service))
         }
         Named::Reserved => {
-            let refusal = reserved(right, fields[5]);
-            Err(lacking(format, Service::Dpv1, fields, 4, len, refusal))
+            let number = reserved_number(right, fields[5]);
+            Err(lacking_number(format, Service::Dpv1, fields, 4, len, number))
         }
         Named::Unlisted => {
-            Err(lacking(format, Service::Dpv1, fields, 0, len, Refusal::NoService))
+            let number = lacking_number(format, Service::Dpv1, fields, 0, len, no_service);
+            Err(number)
         }
-        Named::Nothing => Err(Refusal::Field),
+        Named::Nothing => Err(Refusal::Field.number()),
     }
 }
 

@@ -2,14 +2,13 @@
 #![tactic(auto)]
 
 ghost use Rattle.std.specs.Prelude.{◌≡◌, length};
-ghost use Rattle.octets.specs.Refusals.{told};
 ghost use Rattle.octets.specs.Front.{answer_by, held_by};
 ghost use Rattle.fdl.specs.Reading.{read_of};
 ghost use Rattle.fields.specs.Outcome.{status_of, count_after};
 ghost use Rattle.capi_telegram.specs.Telegram.{sap_number, sap_of, refusal_of, telegram_fields, fields_after, header_of, verdict_at, bytes_at, answer_of, held_of};
 
 use fdl::{Header, Reading, Sap};
-use fields::{Kind, format_number, kind_of, store_count};
+use fields::{Kind, format_number, kind_of, store_count, told};
 use octets::Refusal;
 
 fn sap_number(sap: Sap) -> u8
@@ -99,25 +98,30 @@ fn write_kind(
     fields: &[u8; 8],
     user: &[u8],
     out: &mut [u8],
-) -> Result<usize, Refusal>
-    ensures answer { told result ≡ answer_by (verdict_at kind fields.now user.now) (bytes_at kind fields.now user.now) (length out.old) }
+) -> Result<usize, u8>
+    ensures answer { result ≡ answer_by (verdict_at kind fields.now user.now) (bytes_at kind fields.now user.now) (length out.old) }
     ensures bytes { out.new ≡ held_by (verdict_at kind fields.now user.now) (bytes_at kind fields.now user.now) out.old }
 {
     match kind {
         Some(Kind::Confirmation) => {
             if user.len() != 0 {
-                return Err(Refusal::Field);
+                return Err(Refusal::Field.number());
             }
-            framing::write_confirmation(out)
+            told(framing::write_confirmation(out))
         }
         Some(Kind::Token) => {
             if user.len() != 0 {
-                return Err(Refusal::Field);
+                return Err(Refusal::Field.number());
             }
-            framing::write_token(fields[1], fields[2], out)
+            told(framing::write_token(fields[1], fields[2], out))
         }
-        Some(Kind::Telegram(format)) => fdl_writer::write(format, header_of(fields), user, out),
-        None => Err(Refusal::Field),
+        Some(Kind::Telegram(format)) => told(fdl_writer::write(
+            format,
+            header_of(fields),
+            user,
+            out,
+        )),
+        None => Err(Refusal::Field.number()),
     }
 }
 

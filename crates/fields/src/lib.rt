@@ -5,4 +5,4 @@ mod kinds;
 mod outcome;
 
 pub use kinds::{Kind, format_number, kind_of};
-pub use outcome::store_count;
+pub use outcome::{store_count, told};

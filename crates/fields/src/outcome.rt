@@ -5,16 +5,23 @@ ghost use Rattle.fields.specs.Outcome.{status_of, count_after};
 
 use octets::Refusal;
 
+// A writer's answer, with its refusal as a number.
+pub fn told(written: Result<usize, Refusal>) -> Result<usize, u8>
+    ensures { result ≡ told written }
+{
+    written.map_err(|refusal| refusal.number())
+}
+
 // A writer's answer as a number; where it has stored, the count goes to stored.
-pub fn store_count(written: Result<usize, Refusal>, stored: &mut usize) -> u8
-    ensures refusal { result ≡ status_of (told written) }
-    ensures count { stored.new ≡ count_after (told written) stored.old }
+pub fn store_count(written: Result<usize, u8>, stored: &mut usize) -> u8
+    ensures refusal { result ≡ status_of written }
+    ensures count { stored.new ≡ count_after written stored.old }
 {
     match written {
         Ok(n) => {
             *stored = n;
             0
         }
-        Err(refusal) => refusal.number(),
+        Err(number) => number,
     }
 }
