@@ -1,7 +1,6 @@
 // Calls: what a master asks of a slave.
 
 // A write and a data transport have data, which are lent bytes; their count is the length byte.
-
 #[derive(Clone, Copy)]
 pub enum Call {
     Poll,

@@ -1,7 +1,6 @@
 // Function numbers, and the functions whose answers can be negative.
 
 // The first byte of calls and positive answers.
-
 pub const READ: u8 = 0x5E;
 
 pub const WRITE: u8 = 0x5F;

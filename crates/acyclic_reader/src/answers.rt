@@ -73,7 +73,7 @@ fn four(number: u8, slot: u8, index: u8, last: u8, count: usize) -> Result<Read<
     })
 }
 
-// Reads an answer: all of the lent slice is one.
+// Reads an answer: all of the lent slice is one. Where the answer has no data, they are none, at the end of the bytes.
 #[tactic(auto, unfolding(acyclic::specs::Forms::where_allowed, acyclic::specs::Answers::read_answer_of, acyclic::specs::Forms::by_number))]
 pub fn read_answer(bytes: &[u8]) -> Result<Read<Answer>, Refusal>
     ensures { told result ≡ read_answer_of bytes.now }

@@ -47,7 +47,7 @@ fn four(number: u8, slot: u8, index: u8, last: u8, count: usize) -> Result<Read<
     })
 }
 
-// Reads a call: all of the lent slice is one.
+// Reads a call: all of the lent slice is one. Where the call has no data, they are none, at the end of the bytes.
 #[tactic(auto, unfolding(acyclic::specs::Forms::where_allowed, acyclic::specs::Calls::read_call_of, acyclic::specs::Forms::by_number))]
 pub fn read_call(bytes: &[u8]) -> Result<Read<Call>, Refusal>
     ensures { told result ≡ read_call_of bytes.now }

@@ -16,7 +16,7 @@ pub struct AddressChange {
     pub locked: u8,
 }
 
-// Reads an address change: all of the lent slice is one.
+// Reads an address change: all of the lent slice is one. By document 01 nothing follows the four fixed bytes.
 #[tactic(auto, unfolding(crate::specs::Address::verdict_of, crate::specs::Address::read_of))]
 pub fn read_address_change(bytes: &[u8]) -> Result<Read<AddressChange>, Refusal>
     ensures { told result ≡ read_of bytes.now }

@@ -24,7 +24,7 @@ fn good_command(command: u8) -> bool
     command / 64 == 0
 }
 
-// Reads a global command: all of the lent slice is one.
+// Reads a global command: all of the lent slice is one. By document 01 nothing follows the two fixed bytes.
 #[tactic(auto, unfolding(crate::specs::Command::verdict_of, crate::specs::Command::read_of))]
 pub fn read_global_command(bytes: &[u8]) -> Result<Read<GlobalCommand>, Refusal>
     ensures { told result ≡ read_of bytes.now }

@@ -1,4 +1,4 @@
-// What stands where a block begins: which kind of block, and how long, or the first fault.
+// What stands where a block begins: which kind of block, and how long.
 ghost use Rattle.std.specs.Prelude.{◌≡◌};
 ghost use Rattle.diagnosis.specs.Block.{good_code};
 

@@ -10,7 +10,7 @@ pub struct Header {
     pub ident: u16,
 }
 
-// A diagnosis: its header, and how many blocks are behind it.
+// A diagnosis: its header, and how many blocks are behind it, from byte 6 to the end.
 #[derive(Clone, Copy)]
 pub struct Reading {
     pub header: Header,

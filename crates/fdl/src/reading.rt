@@ -20,7 +20,7 @@ pub enum Reading {
 }
 
 // A reading, with the class of a telegram's function code. Reading has to look it up, to refuse what is reserved; who
-// goes on by the class has it from here, because each look-up costs the building of the table in the frame.
+// goes on by the class has it from here, and looks nothing up again.
 #[derive(Drop)]
 pub enum Classed {
     Confirmation,
