@@ -15,13 +15,13 @@ use Rattle.function_code.specs.declared.code.Class.{Class}
 use Rattle.function_code.specs.declared.code.Class.TheVariants.{Opening, Counted, Uncounted, Bare, Data, Reserved}
 
 -- the class that a number names
-abbrev named : ℕ → Class
+abbrev pub named : ℕ → Class
 named n =
     pick (eqb n (class_number Opening)) Opening
     (pick (eqb n (class_number Counted)) Counted
     (pick (eqb n (class_number Uncounted)) Uncounted (pick (eqb n (class_number Bare)) Bare (pick (eqb n (class_number Data)) Data Reserved))))
 
-named_number : (c : Class) → named (class_number c) ≡ c
+pub named_number : (c : Class) → named (class_number c) ≡ c
 named_number Opening = refl
 named_number Counted = refl
 named_number Uncounted = refl
